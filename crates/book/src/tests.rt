@@ -11,38 +11,33 @@ use std::test::*;
 
 const SLOT: u64 = 1 << 32;
 
+// Which of the two methods replies.
+#[derive(Clone, Copy)]
+enum By {
+    Apply,
+    Ask,
+}
+
+fn op(code: u64, argument: u64) -> Op {
+    Op { code, argument }
+}
+
 // Each operation of a list, by code and argument, has this sort.
 fn all_are<B: Book>(book: &B, sort: Sort, ops: &[(u64, u64)]) -> Result<(), Fail> {
     for (code, argument) in ops {
-        let op = Op {
-            code: *code,
-            argument: *argument,
-        };
-        check_eq(book.sort(op), sort)?;
+        check_eq(book.sort(op(*code, *argument)), sort)?;
     }
     Ok(())
 }
 
-// Applies each operation of a list, and compares the replies.
-fn applies<B: Book>(book: &mut B, steps: &[(u64, u64, (u64, u64))]) -> Result<(), Fail> {
+// Each operation of a list, by code and argument, gets its reply.
+fn replies<B: Book>(book: &mut B, by: By, steps: &[(u64, u64, (u64, u64))]) -> Result<(), Fail> {
     for (code, argument, reply) in steps {
-        let op = Op {
-            code: *code,
-            argument: *argument,
+        let told = match by {
+            By::Apply => book.apply(op(*code, *argument)),
+            By::Ask => book.ask(op(*code, *argument)),
         };
-        check_eq(book.apply(op), *reply)?;
-    }
-    Ok(())
-}
-
-// Asks each operation of a list, and compares the replies.
-fn answers<B: Book>(book: &mut B, steps: &[(u64, u64, (u64, u64))]) -> Result<(), Fail> {
-    for (code, argument, reply) in steps {
-        let op = Op {
-            code: *code,
-            argument: *argument,
-        };
-        check_eq(book.ask(op), *reply)?;
+        check_eq(told, *reply)?;
     }
     Ok(())
 }
@@ -76,8 +71,9 @@ fn tally_sorts() -> Result<(), Fail> {
 #[test]
 fn tally_adds_up_to_its_limit() -> Result<(), Fail> {
     let mut tally = Tally { value: 934_464 };
-    applies(
+    replies(
         &mut tally,
+        By::Apply,
         &[
             (1, 65_535, (0, 999_999)),
             (1, 2, (1, 999_999)),
@@ -85,13 +81,18 @@ fn tally_adds_up_to_its_limit() -> Result<(), Fail> {
             (1, 1, (1, 1_000_000)),
         ],
     )?;
-    answers(
+    replies(
         &mut tally,
+        By::Ask,
         &[(2, 0, (0, 1_000_000)), (1, 1, (255, 0)), (2, 1, (255, 0))],
     )?;
-    applies(&mut tally, &[(2, 0, (255, 0)), (1, 65_536, (255, 0))])?;
+    replies(
+        &mut tally,
+        By::Apply,
+        &[(2, 0, (255, 0)), (1, 65_536, (255, 0))],
+    )?;
     tally.reset();
-    answers(&mut tally, &[(2, 0, (0, 0))])
+    replies(&mut tally, By::Ask, &[(2, 0, (0, 0))])
 }
 
 #[test]
@@ -122,16 +123,18 @@ fn slots_sorts() -> Result<(), Fail> {
 #[test]
 fn slots_reserve_cancel_and_tell() -> Result<(), Fail> {
     let mut slots = Slots::new();
-    applies(
+    replies(
         &mut slots,
+        By::Apply,
         &[
             (1, 1, (0, 1)),
             (1, 63 * SLOT + SLOT - 1, (0, 2)),
             (1, 2, (1, 1)),
         ],
     )?;
-    answers(
+    replies(
         &mut slots,
+        By::Ask,
         &[
             (3, 0, (0, 1)),
             (3, 63, (0, SLOT - 1)),
@@ -140,8 +143,9 @@ fn slots_reserve_cancel_and_tell() -> Result<(), Fail> {
             (1, 1, (255, 0)),
         ],
     )?;
-    applies(
+    replies(
         &mut slots,
+        By::Apply,
         &[
             (2, 2, (0, 63)),
             (2, 2, (2, 2)),
@@ -151,10 +155,10 @@ fn slots_reserve_cancel_and_tell() -> Result<(), Fail> {
             (1, 64 * SLOT + 1, (255, 0)),
         ],
     )?;
-    answers(&mut slots, &[(3, 63, (0, 5))])?;
+    replies(&mut slots, By::Ask, &[(3, 63, (0, 5))])?;
     slots.reset();
-    answers(&mut slots, &[(3, 0, (3, 0))])?;
-    applies(&mut slots, &[(1, 1, (0, 1))])
+    replies(&mut slots, By::Ask, &[(3, 0, (3, 0))])?;
+    replies(&mut slots, By::Apply, &[(1, 1, (0, 1))])
 }
 
 #[test]
@@ -163,8 +167,9 @@ fn slots_run_out_of_numbers() -> Result<(), Fail> {
         slots: [None; 64],
         last: 999_999,
     };
-    applies(
+    replies(
         &mut slots,
+        By::Apply,
         &[
             (1, SLOT + 7, (0, 1_000_000)),
             (1, 2 * SLOT + 7, (4, 0)),
