@@ -1,0 +1,3 @@
+pub mod Records
+pub mod Sweeps
+pub mod Lazies
