@@ -1,3 +1,5 @@
+pub mod Early
 pub mod Records
 pub mod Sweeps
 pub mod Lazies
+pub mod Throughs

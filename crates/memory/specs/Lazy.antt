@@ -9,7 +9,7 @@ use lib.ListN.{length, take}
 use Rattle.std.specs.shelf.Lists.{All}
 use Rattle.std.proofs.shelf.Elements.{all-from-every, all-take}
 use Rattle.std.proofs.shelf.Lists.{length-take-le}
-use Rattle.memory.specs.Model.{Line, Mem, Freedom, Whole-line, Whole}
+use Rattle.memory.specs.Model.{Line, Mem, Freedom, Whole-line, chosen}
 use Rattle.memory.specs.declared.types.LineRec.{LineRec}
 
 abbrev pub line-of : LineRec → Line
@@ -36,17 +36,10 @@ pub lazy-whole : (rs : List LineRec) → All Whole-line (map line-of rs)
 lazy-whole [] = tt
 lazy-whole (r ∷ rs) = (line-whole r, lazy-whole rs)
 
--- a line with these words settled, and nothing pending
-abbrev pub settled-line : List ℕ → Line
-settled-line ws = record { settled = ws; pending = []; asked = 0 }
-
 -- the oldest store settles early where a line has come to have seventeen, and nothing else does
 abbrev pub early-count : Line → ℕ
 early-count x = cond (ltb 16 (length (x .pending))) 1 0
 
-abbrev pub lazy-early : Mem → List ℕ
-lazy-early m = map early-count (m .lines)
-
 -- nothing is free: a cut keeps of line l as many stores as byte l says
 abbrev pub lazy-freedom : Freedom
-lazy-freedom = record { early-by = λ m ns. ns ≡ lazy-early m; kept-by = λ m bytes ns. ns ≡ bytes }
+lazy-freedom = record { early-by = λ m ns. ns ≡ chosen early-count m; kept-by = λ m bytes ns. ns ≡ bytes }

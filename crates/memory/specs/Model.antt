@@ -2,7 +2,7 @@
 -- many of these a write-back has asked for; and a count of fences.
 use mathlib.Core.Path.{_≡_}
 use mathlib.Core.Bool.{Bool, cond, _&&_}
-use mathlib.Core.List.{List, [], _∷_, _++_}
+use mathlib.Core.List.{List, [], _∷_, _++_, map}
 use Prim.Native.Nat.{ℕ, _+_, _-_, _%_, _^_, _<_, _≤_, min, max}
 use lib.Dec.{ltb}
 use lib.ListN.{length, getD, set, take, drop, replicate}
@@ -18,8 +18,12 @@ pub record Mem : Type 0 where
   pub lines : List Line
   pub fences : ℕ
 
+-- a line with these words settled, and nothing pending
+abbrev pub settled-line : List ℕ → Line
+settled-line ws = record { settled = ws; pending = []; asked = 0 }
+
 abbrev pub blank-line : Line
-blank-line = record { settled = replicate 8 0; pending = []; asked = 0 }
+blank-line = settled-line (replicate 8 0)
 
 abbrev pub blank : ℕ → Mem
 blank n = record { lines = replicate n blank-line; fences = 0 }
@@ -36,11 +40,11 @@ written ws [] = ws
 written ws (s ∷ ss) = written (set ws (s .word) (s .value)) ss
 
 -- load: the settled words with the unsettled stores made on them; 0 at an absent line or word
-abbrev pub words : Line → List ℕ
-words x = written (x .settled) (x .pending)
+abbrev pub words-of : Line → List ℕ
+words-of x = written (x .settled) (x .pending)
 
 abbrev pub loaded-line : Mem → ℕ → List ℕ
-loaded-line m l = words (line-at m l)
+loaded-line m l = words-of (line-at m l)
 
 abbrev pub loaded : Mem → ℕ → ℕ → ℕ
 loaded m l w = getD (loaded-line m l) w 0
@@ -97,6 +101,10 @@ cut-line n x = record { settled = written (x .settled) (take n (x .pending)); pe
 
 abbrev pub cut : List ℕ → Mem → Mem
 cut ns m = record { lines = each cut-line ns (m .lines); fences = 0 }
+
+-- the numbers that a rule chooses, line by line
+abbrev pub chosen : (Line → ℕ) → Mem → List ℕ
+chosen c m = map c (m .lines)
 
 -- what a memory is free in, and its limits. `early-by m ns`: where a store, a write-back or a fence has made m,
 -- ns stores of its lines may settle early. `kept-by m bytes ns`: a cut of m with these bytes may keep ns

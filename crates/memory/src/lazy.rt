@@ -3,8 +3,8 @@ ghost use mathlib.Core.Path.{_≡_};
 ghost use Prim.Native.Nat.{ℕ, _<_};
 ghost use mathlib.Core.List.{[], map};
 ghost use lib.ListN.{length, getD, replicate};
-ghost use Rattle.memory.specs.Model.{blank, blank-line, words, each, pushed, stored, marked, written-back, fence-line, cut-line};
-ghost use Rattle.memory.specs.Lazy.{line-of, lazy-mem, lazy-whole, early-count, lazy-early, lazy-freedom};
+ghost use Rattle.memory.specs.Model.{blank, blank-line, words-of, each, chosen, pushed, stored, marked, written-back, fence-line, cut-line};
+ghost use Rattle.memory.specs.Lazy.{line-of, lazy-mem, lazy-whole, early-count, lazy-freedom};
 use super::Memory;
 use super::line::word_in;
 use super::types::LineRec;
@@ -85,7 +85,7 @@ pub impl<'a> Memory for Lazy<'a> as LazyMemory {
 }
 
 fn words_at(lines: &[LineRec], line: usize) -> [u64; 8]
-    ensures { λ r. ⌜ r ≡ words (getD (map line-of (now (lines .entry))) line blank-line) ⌝ }
+    ensures { λ r. ⌜ r ≡ words-of (getD (map line-of (now (lines .entry))) line blank-line) ⌝ }
 {
     if line < lines.len() {
         let rec = &lines[line];
@@ -97,7 +97,7 @@ fn words_at(lines: &[LineRec], line: usize) -> [u64; 8]
 
 fn push_at(lines: &mut [LineRec], line: usize, word: usize, value: u64)
     requires { ⌜ word < 8 ⌝ }
-    ensures { λ _. ⌜ ((n : ℕ) → lazy-mem (now (lines .exit)) n ≡ stored (lazy-early (pushed (lazy-mem (now (lines .entry)) n) line word value)) (lazy-mem (now (lines .entry)) n) line word value) ⌝ }
+    ensures { λ _. ⌜ ((n : ℕ) → lazy-mem (now (lines .exit)) n ≡ stored (chosen early-count (pushed (lazy-mem (now (lines .entry)) n) line word value)) (lazy-mem (now (lines .entry)) n) line word value) ⌝ }
 {
     if line < lines.len() {
         let rec = &mut lines[line];
@@ -106,7 +106,7 @@ fn push_at(lines: &mut [LineRec], line: usize, word: usize, value: u64)
 }
 
 fn ask_at(lines: &mut [LineRec], line: usize)
-    ensures { λ _. ⌜ ((n : ℕ) → lazy-mem (now (lines .exit)) n ≡ written-back (lazy-early (marked (lazy-mem (now (lines .entry)) n) line)) (lazy-mem (now (lines .entry)) n) line) ⌝ }
+    ensures { λ _. ⌜ ((n : ℕ) → lazy-mem (now (lines .exit)) n ≡ written-back (chosen early-count (marked (lazy-mem (now (lines .entry)) n) line)) (lazy-mem (now (lines .entry)) n) line) ⌝ }
 {
     if line < lines.len() {
         let rec = &mut lines[line];

@@ -8,10 +8,13 @@ ghost use Rattle.memory.specs.Model.{Mem, Freedom, Whole, loaded, loaded-line,
 
 mod lazy;
 mod line;
+mod through;
 mod types;
 
 pub use lazy::Lazy;
 pub use lazy::LazyMemory;
+pub use through::Through;
+pub use through::ThroughMemory;
 pub use types::LineRec;
 pub use types::Store;
 

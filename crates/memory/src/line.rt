@@ -3,8 +3,8 @@ ghost use mathlib.Core.List.{[]};
 ghost use Prim.Native.Nat.{_-_, _≤_, _<_};
 ghost use lib.ListN.{getD};
 ghost use Rattle.std.specs.shelf.Lists.{All};
-ghost use Rattle.memory.specs.Model.{words, written, settle, push-store, ask, fence-line, cut-line};
-ghost use Rattle.memory.specs.Lazy.{line-of, settled-line, early-count};
+ghost use Rattle.memory.specs.Model.{settled-line, words-of, written, settle, push-store, ask, fence-line, cut-line};
+ghost use Rattle.memory.specs.Lazy.{line-of, early-count};
 use super::types::LineRec;
 use super::types::Store;
 
@@ -43,7 +43,7 @@ impl LineRec {
 
     // The words as a load gives them.
     pub(crate) fn words(&self) -> [u64; 8]
-        ensures { λ r. ⌜ r ≡ words (line-of (now (self .entry))) ⌝ }
+        ensures { λ r. ⌜ r ≡ words-of (line-of (now (self .entry))) ⌝ }
     {
         made(self.settled, &self.stores[0..self.count])
     }
