@@ -2,7 +2,7 @@
 use mathlib.Core.Path.{_≡_, refl, sym, ap, ap₂, _∙_}
 use mathlib.Core.Bool.{true, false}
 use mathlib.Core.List.{List, [], _∷_, map}
-use Prim.Native.Nat.{ℕ, zero, suc, _<_, _≤_}
+use Prim.Native.Nat.{ℕ, _<_, _≤_}
 use native.Mathlib.Omega.{arith}
 use lib.Dec.{ltb}
 use lib.ListN.{length, getD, set}
@@ -12,7 +12,7 @@ use Rattle.std.proofs.shelf.Tests.{cond-true, cond-false, lt-ltb, le-ltb, and-f
 use Rattle.memory.specs.Model.{Line, blank-line, words-of, settle, each, early, chosen, push-store, pushed, stored, ask, marked, written-back, fence-line}
 use Rattle.memory.specs.Lazy.{line-of, lazy-mem, pending-length, early-count}
 use Rattle.memory.specs.declared.types.LineRec.{LineRec}
-use Rattle.memory.proofs.Early.{Stays, one-settles}
+use Rattle.memory.proofs.Each.{Stays, one-settles}
 use Rattle.memory.proofs.Records.{settle-none, early-none}
 use Rattle.memory.proofs.Sweeps.{line-read}
 

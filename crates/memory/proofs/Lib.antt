@@ -1,4 +1,6 @@
-pub mod Early
+pub mod Each
+pub mod Settling
+pub mod Acts
 pub mod Records
 pub mod Sweeps
 pub mod Lazies

@@ -1,15 +1,15 @@
 -- The records of the lazy memory: what a settling, a store and a cut make of one.
-use mathlib.Core.Path.{_≡_, refl, sym, ap, subst, _∙_}
-use mathlib.Core.List.{List, [], _∷_, _++_}
-use Prim.Native.Nat.{ℕ, zero, suc, _+_, _-_, _<_, _≤_, min}
+use mathlib.Core.Path.{_≡_, refl, sym, ap, _∙_}
+use mathlib.Core.List.{List, _++_}
+use Prim.Native.Nat.{ℕ, _+_, _-_, _<_, _≤_, min}
 use native.Mathlib.Omega.{arith}
-use lib.ListN.{length, set, take, drop, length-drop, length-take}
+use lib.ListN.{length, take, drop, length-drop, length-take}
 use Rattle.std.specs.shelf.Lists.{All}
-use Rattle.std.proofs.shelf.Elements.{all-from-every, all-take}
-use Rattle.std.proofs.shelf.Lists.{take-take, take-all, take-append-le, drop-append-le, drop-take, take-more-set, length-push, length-take-le}
+use Rattle.std.proofs.shelf.Elements.{all-take}
+use Rattle.std.proofs.shelf.Lists.{take-take, take-all, take-append-le, drop-take}
 use mathlib.Core.Logic.{inl, inr}
-use Rattle.std.proofs.shelf.Tests.{cases-lt, cond-true, cond-false, lt-ltb, le-ltb}
-use Rattle.memory.specs.Model.{Line, written, settle, push-store, cut-line}
+use Rattle.std.proofs.shelf.Tests.{cases-lt, cond-false, le-ltb}
+use Rattle.memory.specs.Model.{Line, written, settle, cut-line}
 use Rattle.memory.specs.Lazy.{line-of, stores-within, pending-length, early-count}
 use Rattle.memory.specs.declared.types.LineRec.{LineRec}
 use Rattle.memory.specs.declared.types.Store.{Store}

@@ -1,25 +1,14 @@
 -- A loop that goes through the lines once and makes of each what f does, with the line's own number.
 use mathlib.Core.Path.{_≡_, refl, sym, ap, ap₂, _∙_}
 use mathlib.Core.List.{List, [], _∷_, _++_, map}
-use Prim.Native.Nat.{ℕ, zero, suc, _+_, _<_, _≤_}
+use Prim.Native.Nat.{ℕ, _+_, _<_, _≤_}
 use native.Mathlib.Omega.{arith}
 use lib.ListN.{length, getD, set, take, drop, replicate, length-set}
 use Rattle.std.proofs.shelf.Lists.{take-all, take-more, take-more-set, drop-drop, drop-set-lt, getD-drop, length-map, map-set, getD-map}
 use Rattle.memory.specs.Model.{Line, blank-line, each}
 use Rattle.memory.specs.Lazy.{line-of}
+use Rattle.memory.proofs.Each.{length-each, each-at}
 use Rattle.memory.specs.declared.types.LineRec.{LineRec}
-
-pub length-each : (f : ℕ → Line → Line) (ns : List ℕ) (xs : List Line) → length (each f ns xs) ≡ length xs
-length-each f ns [] = refl
-length-each f [] (x ∷ xs) = ap suc (length-each f [] xs)
-length-each f (n ∷ ns) (x ∷ xs) = ap suc (length-each f ns xs)
-
-pub each-at : (f : ℕ → Line → Line) (ns : List ℕ) (xs : List Line) (i : ℕ) → i < length xs → getD (each f ns xs) i blank-line ≡ f (getD ns i 0) (getD xs i blank-line)
-each-at f ns [] i h = absurd (omega arith)
-each-at f [] (x ∷ xs) zero h = refl
-each-at f [] (x ∷ xs) (suc i) h = each-at f [] xs i (omega arith)
-each-at f (n ∷ ns) (x ∷ xs) zero h = refl
-each-at f (n ∷ ns) (x ∷ xs) (suc i) h = each-at f ns xs i (omega arith)
 
 -- the first i lines are done, the others as they were
 pub record Swept (f : ℕ → Line → Line) (ns : List ℕ) (olds : List LineRec) (i : ℕ) (news : List LineRec) : Type 0 where

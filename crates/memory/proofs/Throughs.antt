@@ -9,9 +9,9 @@ use lib.ListN.{length, getD, set, take, drop, replicate, length-set}
 use Rattle.std.specs.shelf.Lists.{All}
 use Rattle.std.proofs.shelf.Lists.{drop-drop, drop-set-lt, drop-set-add, take-set-le, getD-past, set-getD, take-take, take-replicate, drop-take, drop-replicate, take-more-set, replicate-more}
 use Rattle.std.proofs.shelf.Tests.{cond-true, cond-false, cond-both, ltb-true, lt-ltb, le-ltb, and-from, and-left}
-use Rattle.memory.specs.Model.{Line, Mem, settled-line, blank-line, blank, words-of, settle, each, early, chosen, push-store, pushed, stored, ask, marked, written-back, fence-line, cut-line}
+use Rattle.memory.specs.Model.{Line, Mem, settled-line, blank-line, blank, words-of, settle, each, chosen, push-store, pushed, stored, ask, marked, written-back, fence-line, cut-line}
 use Rattle.memory.specs.Through.{lines-of, whole-lines, through-mem, rest-of, all-pending}
-use Rattle.memory.proofs.Early.{Stays, all-stay, one-settles}
+use Rattle.memory.proofs.Each.{Stays, one-settles}
 
 pub length-lines : (n : ℕ) (ws : List ℕ) → length (lines-of n ws) ≡ n
 length-lines zero ws = refl

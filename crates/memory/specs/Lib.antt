@@ -1,3 +1,4 @@
 pub mod Model
+pub mod Laws
 pub mod Lazy
 pub mod Through

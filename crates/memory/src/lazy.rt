@@ -1,7 +1,7 @@
 ghost use denote.Ref.{now, name};
 ghost use mathlib.Core.Path.{_≡_};
 ghost use Prim.Native.Nat.{ℕ, _<_};
-ghost use mathlib.Core.List.{[], map};
+ghost use mathlib.Core.List.{map};
 ghost use lib.ListN.{length, getD, replicate};
 ghost use Rattle.memory.specs.Model.{blank, blank-line, words-of, each, chosen, pushed, stored, marked, written-back, fence-line, cut-line};
 ghost use Rattle.memory.specs.Lazy.{line-of, lazy-mem, lazy-whole, early-count, lazy-freedom};

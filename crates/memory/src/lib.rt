@@ -5,6 +5,7 @@ ghost use mathlib.Core.List.{List};
 ghost use Prim.Native.Nat.{ℕ};
 ghost use lib.ListN.{length};
 ghost use Rattle.memory.specs.Model.{Mem, Freedom, Whole, loaded, loaded-line, pushed, stored, marked, written-back, fenced, cut};
+ghost use Rattle.memory.specs.Laws.{Settles-in-order};
 
 mod lazy;
 mod line;
@@ -61,3 +62,8 @@ pub trait Memory {
         ensures aside { λ _. ⌜ aside (now (self .exit)) ≡ aside (now (self .entry)) ⌝ }
         ensures cut { λ _. ⌜ ((ns : List ℕ) × freedom .kept-by (model (now (self .entry))) (now (kept .entry)) ns × (model (now (self .exit)) ≡ cut ns (model (now (self .entry))))) ⌝ };
 }
+
+// What holds of any memory, whatever stores, write-backs and fences it is given from now on, and whatever a cut keeps.
+pub fn settles_in_order<M: Memory>(memory: &M)
+    ensures { λ _. ⌜ Settles-in-order (M·Memory .model (now (memory .entry))) ⌝ }
+{}

@@ -2,7 +2,7 @@ ghost use denote.Ref.{now, name};
 ghost use mathlib.Core.Path.{_≡_};
 ghost use mathlib.Core.List.{List, [], map};
 ghost use Prim.Native.Nat.{ℕ, _+_, _*_, _/_, _<_};
-ghost use lib.ListN.{length, getD, set};
+ghost use lib.ListN.{length, getD};
 ghost use Rattle.memory.specs.Model.{blank, blank-line, words-of, each, chosen, pushed, stored, marked, written-back, fence-line, cut-line};
 ghost use Rattle.memory.specs.Through.{whole-lines, through-mem, through-whole, rest-of, all-pending, through-freedom};
 use super::Memory;

@@ -1,5 +1,5 @@
 use mathlib.Core.List.{[]}
-use Rattle.memory.specs.Model.{blank-line, fence-line, cut-line}
+use Rattle.memory.specs.Model.{blank-line}
 use Rattle.memory.proofs.Sweeps.{Swept}
 use Rattle.memory.proofs.lazy.blank_lines.Given as given
 

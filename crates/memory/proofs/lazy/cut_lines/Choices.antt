@@ -1,5 +1,4 @@
-use mathlib.Core.List.{[]}
-use Rattle.memory.specs.Model.{blank-line, fence-line, cut-line}
+use Rattle.memory.specs.Model.{cut-line}
 use Rattle.memory.proofs.Sweeps.{Swept}
 use Rattle.memory.proofs.lazy.cut_lines.Given as given
 

@@ -1,5 +1,5 @@
 use mathlib.Core.List.{[]}
-use Rattle.memory.specs.Model.{blank-line, fence-line, cut-line}
+use Rattle.memory.specs.Model.{fence-line}
 use Rattle.memory.proofs.Sweeps.{Swept}
 use Rattle.memory.proofs.lazy.fence_lines.Given as given
 
