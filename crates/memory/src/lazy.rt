@@ -12,8 +12,8 @@ use super::types::LineRec;
 // A memory on records that its caller lends. It settles a store early only where a seventeenth comes to a line.
 #[derive(Drop)]
 pub struct Lazy<'a> {
-    lines: &'a mut [LineRec],
-    fences: u32,
+    pub(crate) lines: &'a mut [LineRec],
+    pub(crate) fences: u32,
 }
 
 impl<'a> Lazy<'a> {
@@ -23,7 +23,7 @@ impl<'a> Lazy<'a> {
         ensures lent { λ r. ⌜ name (r .lines) ≡ name (lines .entry) ⌝ }
     {
         blank_lines(lines);
-        Lazy { lines, fences: 0 }
+        Lazy::over(lines)
     }
 
     // Takes the records as they are.

@@ -9,6 +9,8 @@ ghost use Rattle.memory.specs.Laws.{Settles-in-order};
 
 mod lazy;
 mod line;
+#[cfg(test)]
+mod tests;
 mod through;
 mod types;
 

@@ -23,8 +23,8 @@ impl<'a> Through<'a> {
         ensures rest { λ r. ⌜ rest-of (now (r .words)) ≡ rest-of (now (words .entry)) ⌝ }
         ensures lent { λ r. ⌜ name (r .words) ≡ name (words .entry) ⌝ }
     {
-        clear_lines(words);
-        Through { words, fences: 0 }
+        clear_lines(words, words.len() / 8);
+        Through::over(words)
     }
 
     // Takes the words as they are.
@@ -112,11 +112,12 @@ fn set_word(words: &mut [u64], line: usize, word: usize, value: u64)
     }
 }
 
-fn clear_lines(words: &mut [u64])
+fn clear_lines(words: &mut [u64], lines: usize)
+    requires { ⌜ lines ≡ length (now words) / 8 ⌝ }
     ensures lines { λ _. ⌜ through-mem (now (words .exit)) 0 ≡ blank (length (now (words .entry)) / 8) ⌝ }
     ensures rest { λ _. ⌜ rest-of (now (words .exit)) ≡ rest-of (now (words .entry)) ⌝ }
 {
-    for w in 0..words.len() / 8 * 8 {
+    for w in 0..8 * lines {
         words[w] = 0;
     }
 }
