@@ -11,7 +11,6 @@ use Prim.Native.Nat.{ℕ, zero, suc, pred, _+_, _-_, _*_, _/_, _≤_, max}
 use lib.Dec.{eqb, ltb, leb}
 use lib.ListN.{length, getD, take, drop}
 use Rattle.memory.specs.Model.{Mem, words-of}
-use Rattle.book.specs.declared.types.Op.{Op}
 use Rattle.model.specs.declared.types.Update.{Update}
 
 -- The limits
