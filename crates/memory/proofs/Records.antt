@@ -35,12 +35,12 @@ left-stores n count ss within full =
     ∙ sym (drop-take n (count - n) ss)
     ∙ ap (λ k. drop n (take k ss)) (omega arith)
 
-pub settles : (r : LineRec) (n : ℕ) (ws : List ℕ) (ss : List Store) (a : ℕ) → n ≤ r .count → ws ≡ written (r .settled) (take (n - 0) (r .stores)) →
+pub settles : (r : LineRec) (n : ℕ) (ws : List ℕ) (ss : List Store) (a : ℕ) → n ≤ r .count → ws ≡ written (r .settled) (take n (r .stores)) →
     ss ≡ drop n (r .stores) ++ take n (r .stores) → a ≡ r .asked - n →
     _≡_ {A = Line} (record { settled = ws; pending = take (r .count - n) ss; asked = a }) (settle n (line-of r))
 settles r n ws ss a within made rotated left =
     same-line
-    (made ∙ ap (λ (ps : List Store). written (r .settled) ps) (ap (λ k. take k (r .stores)) (omega arith) ∙ sym (take-take n (r .count) (r .stores) within)))
+    (made ∙ ap (λ (ps : List Store). written (r .settled) ps) (sym (take-take n (r .count) (r .stores) within)))
     (ap (take (r .count - n)) rotated ∙ left-stores n (r .count) (r .stores) within (omega (arith, r .places, r .counted)))
     (left ∙ ap (λ k. r .asked - k) (let e = pending-length r in omega arith))
 
@@ -52,5 +52,5 @@ pub early-none : (x : Line) → length (x .pending) ≤ 16 → early-count x ≡
 early-none x h = cond-false _ 1 0 (le-ltb 16 (length (x .pending)) h)
 
 -- the first n stores of those in use, or all of them
-pub made-first : (r : LineRec) (b n : ℕ) → n ≡ min (r .count) b → written (r .settled) (take (n - 0) (r .stores)) ≡ cut-line b (line-of r) .settled
-made-first r b n least = ap (λ (ps : List Store). written (r .settled) ps) (ap (λ k. take k (r .stores)) (omega arith ∙ least) ∙ take-min (r .count) b (r .stores))
+pub made-first : (r : LineRec) (b n : ℕ) → n ≡ min (r .count) b → written (r .settled) (take n (r .stores)) ≡ cut-line b (line-of r) .settled
+made-first r b n least = ap (λ (ps : List Store). written (r .settled) ps) (ap (λ k. take k (r .stores)) least ∙ take-min (r .count) b (r .stores))

@@ -1,6 +1,6 @@
 ghost use mathlib.Core.Path.{_≡_};
 ghost use Prim.Native.Nat.{_-_, _≤_, _<_};
-ghost use lib.ListN.{getD};
+ghost use lib.ListN.{getD, take};
 ghost use Rattle.std.specs.shelf.Lists.{All};
 ghost use Rattle.memory.specs.Model.{settled-line, words-of, written, settle, push-store, ask, fence-line, cut-line};
 ghost use Rattle.memory.specs.Lazy.{line-of, early-count};
@@ -40,11 +40,19 @@ impl LineRec {
         }
     }
 
+    // The settled words with the n oldest stores made on them.
+    fn made_first(&self, n: usize) -> [u64; 8]
+        requires { ⌜ n ≤ now self .count ⌝ }
+        ensures { λ r. ⌜ r ≡ written (now (self .entry) .settled) (take n (now (self .entry) .stores)) ⌝ }
+    {
+        made(self.settled, &self.stores[0..n])
+    }
+
     // The words as a load gives them.
     pub(crate) fn words(&self) -> [u64; 8]
         ensures { λ r. ⌜ r ≡ words-of (line-of (now (self .entry))) ⌝ }
     {
-        made(self.settled, &self.stores[0..self.count])
+        self.made_first(self.count)
     }
 
     // The line once its n oldest stores have settled.
@@ -56,7 +64,7 @@ impl LineRec {
         let mut stores = self.stores;
         stores.rotate_left(n);
         LineRec {
-            settled: made(self.settled, &self.stores[0..n]),
+            settled: self.made_first(n),
             stores,
             count: self.count - n,
             asked: self.asked.saturating_sub(n),
@@ -104,8 +112,7 @@ impl LineRec {
     fn words_after(&self, n: u8) -> [u64; 8]
         ensures { λ r. ⌜ r ≡ cut-line n (line-of (now (self .entry))) .settled ⌝ }
     {
-        let n = self.count.min(usize::from(n));
-        made(self.settled, &self.stores[0..n])
+        self.made_first(self.count.min(usize::from(n)))
     }
 
     // A cut: the `kept` oldest stores settle, and the others are lost.
