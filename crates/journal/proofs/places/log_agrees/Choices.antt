@@ -1,0 +1,14 @@
+use mathlib.Core.Path.{_≡_}
+use Prim.Native.Nat.{_-_, _≤_}
+use Rattle.model.specs.Journal.{holding-entries, log-entries, agree}
+use Rattle.journal.specs.Reading.{entries-from}
+use Rattle.journal.proofs.places.log_agrees.Given as given
+
+abbrev pub Inv-loop-entry : given.InvT-loop-entry
+Inv-loop-entry g l =
+    (l .at ≤ l .log .end)
+    × (agree (l .line) (holding-entries (l .place) (entries-from (g .M·Memory .model (l .memory)) (l .log .owner) (l .at) (l .log .end)))
+    ≡ agree (l .line) (holding-entries (l .place) (log-entries (g .M·Memory .model (l .memory)) (l .station))))
+
+abbrev pub μ-loop-entry : given.MeasureT-loop-entry
+μ-loop-entry g l = l .log .end - l .at
