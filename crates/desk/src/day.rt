@@ -31,7 +31,7 @@ fn perform<B: Book>(book: &mut B, op: Op) -> (u64, u64)
 }
 
 // A slot is booked, given up and booked for another box, and the first booking is cancelled once more, too late.
-pub fn bookings(rt: &impl Print) -> io::Result<()> {
+pub(super) fn bookings(rt: &impl Print) -> io::Result<()> {
     let mut slots = Slots::new();
     let requests = [
         SlotsRequest::Reserve {
@@ -59,7 +59,7 @@ pub fn bookings(rt: &impl Print) -> io::Result<()> {
 }
 
 // Additions that go as near to the limit as they can, then to it, then past it.
-pub fn tally(rt: &impl Print) -> io::Result<()> {
+pub(super) fn tally(rt: &impl Print) -> io::Result<()> {
     let mut tally = Tally::new();
     for _ in 0..16 {
         show(rt, &mut tally, TallyRequest::Add { amount: 65_535 })?;

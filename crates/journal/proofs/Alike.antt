@@ -1,12 +1,12 @@
 -- Memories that load alike are read alike.
-use mathlib.Core.Path.{_≡_, refl, sym, ap, ap₂, _∙_}
+use mathlib.Core.Path.{_≡_, sym, ap, ap₂, _∙_}
 use mathlib.Core.List.{List, map}
 use Prim.Native.Nat.{ℕ, _-_, _/_, _<_}
 use native.Mathlib.Omega.{arith}
 use lib.ListN.{length, getD, take, drop}
 use Rattle.std.proofs.shelf.Lists.{length-map, ext-getD, getD-map}
 use Rattle.memory.specs.Model.{Mem, words-of, blank-line, loaded-line}
-use Rattle.model.specs.Journal.{Entry, entries, log-start, log-entries, stations, logs, tops, holding, station-count}
+use Rattle.model.specs.Journal.{entries, log-start, station-count, log-entries, stations, logs, tops, holding}
 use Rattle.journal.specs.Laws.{Loads-decide}
 
 words-at : (m : Mem) (l : ℕ) → l < length (map words-of (m .lines)) → getD (map words-of (m .lines)) l (words-of blank-line) ≡ loaded-line m l

@@ -4,11 +4,11 @@ use mathlib.Core.Bool.{true}
 use mathlib.Core.List.{List, [], _∷_, _++_, map}
 use Prim.Native.Nat.{ℕ, suc, _+_, _-_, _<_, _≤_}
 use native.Mathlib.Omega.{arith}
-use lib.ListN.{length, take, drop}
+use lib.ListN.{length}
 use Rattle.std.proofs.shelf.Lists.{take-at, drop-at}
 use Rattle.std.proofs.shelf.Tests.{and-from}
 use Rattle.std.proofs.shelf.Ways.{tells}
-use Rattle.model.specs.Journal.{Entry, max-place, max-run, station-count, max-lines, entry-line, update-in, line-fits, lines-fit, begins, stands, entries, lines-from, Readable, Reads-back}
+use Rattle.model.specs.Journal.{max-place, max-run, station-count, max-lines, entry-line, update-in, line-fits, lines-fit, begins, stands, entries, lines-from, Readable, Reads-back}
 use Rattle.model.specs.declared.types.Update.{Update}
 use Rattle.journal.proofs.Fitting.{entries-some}
 

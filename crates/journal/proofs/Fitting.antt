@@ -1,22 +1,18 @@
 -- What a test of an entry's lines says, and what is then read.
-use mathlib.Core.Path.{_≡_, refl, sym, ap, ap₂, subst, _∙_}
-use mathlib.Core.Bool.{Bool, true, false, cond, _&&_}
-use mathlib.Core.List.{List, [], _∷_, _++_}
-use Prim.Native.Nat.{ℕ, zero, suc, pred, _+_, _-_, _<_, _≤_, max}
+use mathlib.Core.Path.{_≡_, refl, sym, ap, ap₂, _∙_}
+use mathlib.Core.Bool.{true, false, _&&_}
+use mathlib.Core.List.{List, [], _∷_}
+use Prim.Native.Nat.{ℕ, zero, suc, pred, _+_, _-_, _<_, _≤_}
 use native.Mathlib.Omega.{arith}
 use lib.ListN.{length, take, drop}
-use Rattle.std.proofs.shelf.Lists.{length-take-le}
-use Rattle.std.proofs.shelf.Tests.{and-parts, and-from, both-ways, cond-true, cond-false, cases-lt, ltb-true, lt-ltb}
-use mathlib.Core.Logic.{inl, inr}
-use lib.Dec.{ltb}
+use Rattle.std.proofs.shelf.Tests.{and-parts, both-ways, cond-true, cond-false}
 use Rattle.std.proofs.shelf.Ways.{tells}
 use Rattle.memory.specs.Model.{Mem, loaded-line}
 use Rattle.model.specs.Journal.{Entry, word, line-fits, lines-fit, begins, stands, entries, used-lines, top, holding-lines, holding-entries, agree}
 use Rattle.journal.specs.Places.{first}
-use Rattle.journal.proofs.Keeping.{agree-both, first-both}
 use Rattle.journal.specs.Reading.{span, entries-from, Front, Ended, Heads}
-use Rattle.journal.specs.declared.types.Found.{Found}
 use Rattle.journal.proofs.Spans.{span-none, span-more, span-length, span-take, span-drop}
+use Rattle.journal.proofs.Keeping.{agree-both, first-both}
 
 pub fit-length : (n e m mark t : ℕ) (ls : List (List ℕ)) → lines-fit n e m mark t ls ≡ true → n ≤ length ls
 fit-length zero e m mark t ls h = omega arith

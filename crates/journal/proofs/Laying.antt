@@ -10,9 +10,8 @@ use lib.Seq.{take-add}
 use Rattle.std.proofs.shelf.Lists.{take-at, drop-at, length-take-le}
 use Rattle.std.proofs.shelf.Tests.{and-parts, and-from, both-ways, cases-bool}
 use Rattle.model.specs.Journal.{Entry, word, line-fits, lines-fit, begins, stands, entries, used-lines, lines-from}
-use Rattle.model.specs.declared.types.Update.{Update}
 use Rattle.journal.specs.Laws.{Lays-down}
-use Rattle.journal.proofs.Backs.{as-many, same-updates, reads-back}
+use Rattle.journal.proofs.Backs.{as-many, reads-back}
 use Rattle.journal.proofs.Fitting.{fit-length, entries-some, entries-none, lines-begun}
 
 -- the test of n lines looks no further

@@ -1,7 +1,7 @@
 pub mod Spans
+pub mod Keeping
 pub mod Fitting
 pub mod Marking
-pub mod Keeping
 pub mod Backs
 pub mod Alike
 pub mod Laying

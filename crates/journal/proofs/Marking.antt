@@ -11,15 +11,15 @@ use Rattle.std.proofs.shelf.Lists.{length-map, drop-all, drop-more}
 use Rattle.std.proofs.shelf.Tests.{cases-lt}
 use Rattle.memory.specs.Model.{Mem, words-of}
 use Rattle.model.specs.Journal.{Entry, log-length, log-start, log-of, log-entries, stations, entries, tops, holding, holding-entries, agree}
-use Rattle.journal.specs.Reading.{span, entries-from, logs-from, Listed}
 use Rattle.journal.specs.Places.{first}
+use Rattle.journal.specs.Reading.{span, entries-from, logs-from, Listed}
 use Rattle.journal.proofs.Spans.{span-min}
 use Rattle.journal.proofs.Keeping.{agree-both, first-both}
 
--- the start as it is computed, with sums and products that stop at the greatest number
-pub start-is : (s L n b p q r : ℕ) → n < 2 ^ 64 → b ≡ s - 1 → p ≡ min (b * L) (2 ^ 64 - 1) → q ≡ min (p + 1) (2 ^ 64 - 1) → r ≡ min q n → r ≡ min (log-start L s) n
-start-is s L n b p q r h e f k l =
-    let same : b * L ≡ pred s * L = ap (λ x. x * L) (e ∙ sub-one s) in
+-- the start as it is computed, which stops at the greatest number
+pub start-is : (s L n q r : ℕ) → n < 2 ^ 64 → q ≡ min (1 + (s - 1) * L) (2 ^ 64 - 1) → r ≡ min q n → r ≡ min (log-start L s) n
+start-is s L n q r h e f =
+    let same : (s - 1) * L ≡ pred s * L = ap (λ x. x * L) (sub-one s) in
     omega arith
 
 pub start-exact : (s n r : ℕ) → r ≡ min (log-start ((n - 1) / 8) s) n → s ≤ 8 → 1 ≤ n → r ≡ log-start ((n - 1) / 8) s

@@ -1,12 +1,12 @@
 -- Parts of the memory: their first line, their length, and how one splits.
-use mathlib.Core.Path.{_≡_, refl, sym, ap, ap₂, _∙_}
+use mathlib.Core.Path.{_≡_, sym, ap, ap₂, _∙_}
 use mathlib.Core.List.{List, [], _∷_, map}
+use mathlib.Core.Logic.{inl, inr}
 use Prim.Native.Nat.{ℕ, suc, _+_, _-_, _<_, _≤_, min}
 use native.Mathlib.Omega.{arith}
-use lib.ListN.{length, getD, take, drop}
-use Rattle.std.proofs.shelf.Lists.{length-map, length-take, length-drop, take-take, take-all, drop-take, drop-drop, drop-all, drop-more, getD-map}
+use lib.ListN.{length, take, drop}
+use Rattle.std.proofs.shelf.Lists.{length-map, length-take, length-drop, take-take, take-all, drop-take, drop-drop, drop-more, getD-map}
 use Rattle.std.proofs.shelf.Tests.{cases-lt}
-use mathlib.Core.Logic.{inl, inr}
 use Rattle.memory.specs.Model.{Mem, words-of, blank-line, loaded-line}
 use Rattle.journal.specs.Reading.{span}
 

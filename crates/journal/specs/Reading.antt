@@ -1,13 +1,13 @@
 -- What is read of a part of the memory.
 use mathlib.Core.Path.{_≡_}
+use mathlib.Core.Bool.{true, false, _&&_}
 use mathlib.Core.List.{List, [], _∷_, map}
 use Prim.Native.Nat.{ℕ, _+_, _-_, _<_, _≤_, max}
 use lib.ListN.{length, take, drop}
-use Rattle.memory.specs.Model.{Mem, words-of}
-use Rattle.model.specs.Journal.{Entry, entries, used-lines, top, tops, holding-lines, holding-entries, holding, agree, log-entries, stations, word, line-fits, lines-fit, begins, stands}
-use Rattle.journal.specs.Places.{first, or-else}
 use Rattle.std.specs.declared.option.Option.the-variants.{None}
-use mathlib.Core.Bool.{true, false, _&&_}
+use Rattle.memory.specs.Model.{Mem, words-of}
+use Rattle.model.specs.Journal.{word, line-fits, lines-fit, begins, stands, Entry, entries, used-lines, stations, log-entries, top, tops, holding-lines, holding-entries, holding, agree}
+use Rattle.journal.specs.Places.{first, or-else}
 use Rattle.journal.specs.declared.types.Found.{Found}
 
 -- the lines at, at + 1, .., end - 1

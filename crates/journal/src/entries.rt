@@ -1,7 +1,7 @@
 // Entries: whether one stands at a line of the memory, and which.
 ghost use mathlib.Core.Path.{_≡_};
 ghost use mathlib.Core.Bool.{_&&_};
-ghost use Prim.Native.Nat.{_<_, _≤_};
+ghost use Prim.Native.Nat.{ℕ, _<_, _≤_};
 ghost use lib.ListN.{length};
 ghost use Rattle.std.specs.Options.{Cases, isSome};
 ghost use Rattle.model.specs.Journal.{word, lines-fit, begins, stands};
@@ -13,7 +13,7 @@ use super::types::Log;
 use memory::Memory;
 
 // The line `at`, the first of those from there up to `end`.
-pub fn line_at<M: Memory>(memory: &M, at: usize, end: usize) -> [u64; 8]
+pub(crate) fn line_at<M: Memory>(memory: &M, at: usize, end: usize) -> [u64; 8]
     requires { ⌜ at < end ⌝ }
     requires { ⌜ end ≤ length (M·Memory .model (now memory) .lines) ⌝ }
     ensures { λ r. ⌜ Heads (M·Memory .model (now (memory .entry))) at end r ⌝ }
@@ -57,7 +57,7 @@ fn begins_with_entry<M: Memory>(
 }
 
 // The entry that stands at a line of a log.
-pub fn entry_at<M: Memory>(memory: &M, log: Log, at: usize) -> Option<Found>
+pub(crate) fn entry_at<M: Memory>(memory: &M, log: Log, at: usize) -> Option<Found>
     requires { ⌜ log .end ≤ length (M·Memory .model (now memory) .lines) ⌝ }
     ensures stood { λ r. ⌜ isSome r ≡ stands (log .owner) (span (M·Memory .model (now (memory .entry))) at (log .end)) ⌝ }
     ensures reads { λ r. ⌜ Cases r (Ended (M·Memory .model (now (memory .entry))) (log .owner) at (log .end)) (Front (M·Memory .model (now (memory .entry))) (log .owner) at (log .end)) ⌝ }
@@ -76,6 +76,14 @@ pub fn entry_at<M: Memory>(memory: &M, log: Log, at: usize) -> Option<Found>
     })
 }
 
+// The end of a part of the memory, which is at most the memory's own.
+fn end_within<M: Memory>(memory: &M, end: usize) -> usize
+    ensures inside { λ r. ⌜ r ≤ length (M·Memory .model (now (memory .entry)) .lines) ⌝ }
+    ensures same { λ r. ⌜ ((at : ℕ) → span (M·Memory .model (now (memory .entry))) at r ≡ span (M·Memory .model (now (memory .entry))) at end) ⌝ }
+{
+    end.min(memory.line_count())
+}
+
 // An entry of `owner` stands at a line, where the log ends before the line `end`.
 pub fn stands<M: Memory>(memory: &M, owner: u64, at: usize, end: usize) -> bool
     ensures { λ r. ⌜ r ≡ stands owner (span (M·Memory .model (now (memory .entry))) at end) ⌝ }
@@ -83,7 +91,7 @@ pub fn stands<M: Memory>(memory: &M, owner: u64, at: usize, end: usize) -> bool
     let log = Log {
         owner,
         first: at,
-        end: end.min(memory.line_count()),
+        end: end_within(memory, end),
     };
     entry_at(memory, log, at).is_some()
 }

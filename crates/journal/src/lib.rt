@@ -1,6 +1,6 @@
 // The journal: how entries are read from the logs of a memory.
 ghost use Rattle.model.specs.Journal.{Reads-back};
-ghost use Rattle.journal.specs.Laws.{Loads-decide, Lays-down};
+ghost use Rattle.journal.specs.Laws.{Lays-down, Loads-decide};
 
 mod entries;
 mod limits;

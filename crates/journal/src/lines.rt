@@ -47,7 +47,7 @@ fn identity_fits(line: [u64; 8]) -> bool
 }
 
 // A line is line t of an entry for `place` that has this many lines and this mark.
-pub fn line_fits(line: [u64; 8], place: u64, lines: u64, mark: u64, t: u64) -> bool
+pub(crate) fn line_fits(line: [u64; 8], place: u64, lines: u64, mark: u64, t: u64) -> bool
     ensures { λ r. ⌜ r ≡ line-fits place lines mark t line ⌝ }
 {
     t < place
@@ -59,7 +59,7 @@ pub fn line_fits(line: [u64; 8], place: u64, lines: u64, mark: u64, t: u64) -> b
 }
 
 // A line can be the first of an entry in the log of `owner`.
-pub fn begins(owner: u64, line: [u64; 8]) -> bool
+pub(crate) fn begins(owner: u64, line: [u64; 8]) -> bool
     ensures { λ r. ⌜ r ≡ begins owner line ⌝ }
 {
     1 <= line[1]
@@ -71,7 +71,7 @@ pub fn begins(owner: u64, line: [u64; 8]) -> bool
 }
 
 // Two lines carry the same update with the same identity.
-pub fn same_update(a: [u64; 8], b: [u64; 8]) -> bool
+pub(crate) fn same_update(a: [u64; 8], b: [u64; 8]) -> bool
     ensures { λ r. ⌜ r ≡ same-update a b ⌝ }
 {
     a[3] == b[3] && a[4] == b[4] && a[5] == b[5] && a[6] == b[6] && a[7] == b[7]

@@ -1,6 +1,6 @@
 // The logs of the stations, and what is read from one or all of them.
 ghost use mathlib.Core.Path.{_≡_};
-ghost use Prim.Native.Nat.{_+_, _≤_, min};
+ghost use Prim.Native.Nat.{_+_, _-_, _*_, _^_, _≤_, min};
 ghost use lib.ListN.{length};
 ghost use Rattle.model.specs.Journal.{log-length, log-start, log-of, log-entries, used-lines, top, tops, last-place, station-count};
 ghost use Rattle.journal.specs.Reading.{span, logs-from, Listed};
@@ -16,18 +16,24 @@ pub fn log_length<M: Memory>(memory: &M) -> usize
     memory.line_count().saturating_sub(1) / STATIONS as usize
 }
 
+// Where a station's log begins if each log has `length` lines, or the greatest number where that is no number of a line.
+fn start_of(length: usize, station: u64) -> usize
+    ensures { λ r. ⌜ r ≡ min (1 + (station - 1) * length) (2 ^ 64 - 1) ⌝ }
+{
+    let before = station.saturating_sub(1) as usize;
+    before.saturating_mul(length).saturating_add(1)
+}
+
 // The first line of a station's log. Past the eighth station it is at most the number of lines.
 pub fn log_start<M: Memory>(memory: &M, station: u64) -> usize
     ensures value { λ r. ⌜ r ≡ min (log-start (log-length (M·Memory .model (now (memory .entry)))) station) (length (M·Memory .model (now (memory .entry)) .lines)) ⌝ }
     ensures exact { λ r. ⌜ (station ≤ station-count → 1 ≤ length (M·Memory .model (now (memory .entry)) .lines) → r ≡ log-start (log-length (M·Memory .model (now (memory .entry)))) station) ⌝ }
 {
-    let before = station.saturating_sub(1) as usize;
-    let first = before.saturating_mul(log_length(memory)).saturating_add(1);
-    first.min(memory.line_count())
+    start_of(log_length(memory), station).min(memory.line_count())
 }
 
 // The log of a station.
-pub fn log_of<M: Memory>(memory: &M, station: u64) -> Log
+pub(crate) fn log_of<M: Memory>(memory: &M, station: u64) -> Log
     ensures owner { λ r. ⌜ r .owner ≡ station ⌝ }
     ensures inside { λ r. ⌜ r .end ≤ length (M·Memory .model (now (memory .entry)) .lines) ⌝ }
     ensures ordered { λ r. ⌜ r .first ≤ r .end ⌝ }

@@ -1,7 +1,7 @@
 // Places: the lines that hold one, and whether they agree.
 ghost use mathlib.Core.Path.{_≡_};
-ghost use Prim.Native.Nat.{_+_, _≤_};
 ghost use mathlib.Core.Bool.{_&&_};
+ghost use Prim.Native.Nat.{_+_, _≤_};
 ghost use lib.ListN.{length};
 ghost use Rattle.model.specs.Journal.{logs, log-entries, holding, holding-entries, holding-lines, agree, station-count};
 ghost use Rattle.journal.specs.Places.{first};

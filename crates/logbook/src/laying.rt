@@ -14,7 +14,7 @@ fn lay_line<M: Memory>(memory: &mut M, line: usize, words: [u64; 8]) {
 }
 
 // Lays down an entry of a station for a place at its log's first free lines; line t carries the update at place - t.
-pub fn lay<M: Memory>(memory: &mut M, station: u64, place: u64, updates: &[Update]) {
+pub(super) fn lay<M: Memory>(memory: &mut M, station: u64, place: u64, updates: &[Update]) {
     let free = log_start(memory, station).saturating_add(used_lines(memory, station));
     for (t, update) in updates.iter().enumerate() {
         let words = entry_line(place, updates.len() as u64, t as u64, *update);

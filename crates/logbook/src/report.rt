@@ -7,7 +7,7 @@ use memory::Memory;
 use std::io;
 
 // What each log holds.
-pub fn logs<M: Memory>(rt: &impl Print, memory: &M) -> io::Result<()> {
+pub(super) fn logs<M: Memory>(rt: &impl Print, memory: &M) -> io::Result<()> {
     for station in 1..=8 {
         let entries = entry_count(memory, station);
         let used = used_lines(memory, station);
@@ -17,7 +17,7 @@ pub fn logs<M: Memory>(rt: &impl Print, memory: &M) -> io::Result<()> {
 }
 
 // The greatest place, and each place with its update.
-pub fn places<M: Memory>(rt: &impl Print, memory: &M) -> io::Result<()> {
+pub(super) fn places<M: Memory>(rt: &impl Print, memory: &M) -> io::Result<()> {
     let last = last_place(memory);
     println!(rt, "the greatest place is {last}")?;
     for place in 1..=last {

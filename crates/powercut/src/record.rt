@@ -37,7 +37,7 @@ fn find<M: Memory>(memory: &M) -> Option<Booking>
 }
 
 // Writes a booking, cuts the power, and looks for it: on a blank line the booking is whole, or nothing is found.
-pub fn unfenced<M: Memory>(memory: &mut M, booking: Booking, kept: &[u8]) -> Option<Booking>
+pub(super) fn unfenced<M: Memory>(memory: &mut M, booking: Booking, kept: &[u8]) -> Option<Booking>
     ensures { λ r. ⌜ (Blank-first (M·Memory .model (now (memory .entry))) → Whole-or-nothing booking r) ⌝ }
 {
     write(memory, booking);
@@ -46,7 +46,7 @@ pub fn unfenced<M: Memory>(memory: &mut M, booking: Booking, kept: &[u8]) -> Opt
 }
 
 // The same with a write-back and a fence before the cut: on a blank line the booking is found.
-pub fn fenced<M: Memory>(memory: &mut M, booking: Booking, kept: &[u8]) -> Option<Booking>
+pub(super) fn fenced<M: Memory>(memory: &mut M, booking: Booking, kept: &[u8]) -> Option<Booking>
     ensures { λ r. ⌜ (Blank-first (M·Memory .model (now (memory .entry))) → r ≡ Some booking) ⌝ }
 {
     write(memory, booking);

@@ -39,7 +39,7 @@ fn report<M: Memory>(
     }
 }
 
-pub fn lazy(rt: &impl Print) -> io::Result<()> {
+pub(super) fn lazy(rt: &impl Print) -> io::Result<()> {
     println!(rt, "lazy memory, no fence")?;
     for kept in 0..STORES + 1 {
         let mut lines = [LineRec::new([0; 8]); 1];
@@ -50,7 +50,7 @@ pub fn lazy(rt: &impl Print) -> io::Result<()> {
     Ok(())
 }
 
-pub fn lazy_fenced(rt: &impl Print) -> io::Result<()> {
+pub(super) fn lazy_fenced(rt: &impl Print) -> io::Result<()> {
     println!(rt, "lazy memory, write-back and fence before the cut")?;
     for kept in 0..STORES + 1 {
         let mut lines = [LineRec::new([0; 8]); 1];
@@ -61,7 +61,7 @@ pub fn lazy_fenced(rt: &impl Print) -> io::Result<()> {
     Ok(())
 }
 
-pub fn through(rt: &impl Print) -> io::Result<()> {
+pub(super) fn through(rt: &impl Print) -> io::Result<()> {
     println!(rt, "memory that writes through, no fence")?;
     for kept in 0..STORES + 1 {
         let mut words = [0; 8];

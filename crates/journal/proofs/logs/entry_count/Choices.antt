@@ -1,7 +1,7 @@
 use mathlib.Core.Path.{_≡_}
 use Prim.Native.Nat.{_+_, _-_, _≤_}
 use lib.ListN.{length}
-use Rattle.model.specs.Journal.{log-entries, used-lines, top}
+use Rattle.model.specs.Journal.{log-entries}
 use Rattle.journal.specs.Reading.{entries-from}
 use Rattle.journal.proofs.logs.entry_count.Given as given
 

@@ -1,7 +1,6 @@
 use mathlib.Core.Path.{_≡_}
-use Prim.Native.Nat.{_+_, _-_, _≤_}
-use lib.ListN.{length}
-use Rattle.model.specs.Journal.{log-entries, used-lines, top}
+use Prim.Native.Nat.{_-_, _≤_}
+use Rattle.model.specs.Journal.{log-entries, top}
 use Rattle.journal.specs.Reading.{entries-from}
 use Rattle.journal.proofs.logs.greatest_place.Given as given
 

@@ -1,5 +1,5 @@
-use mathlib.Core.Path.{_≡_, ap, ap₂, _∙_}
-use Prim.Native.Nat.{ℕ, _*_, _-_, _^_, _<_, min}
+use mathlib.Core.Path.{_≡_, ap, _∙_}
+use Prim.Native.Nat.{ℕ, _+_, _-_, _*_, _^_, min}
 use native.Mathlib.Omega.{arith}
 use lib.ListN.{length}
 use Rattle.model.specs.Journal.{log-length, log-start}
@@ -10,7 +10,6 @@ pub returns : need.returns
 returns g c =
     let m = g .M·Memory .model (c .args .memory .now) in
     let value : c .min .result ≡ min (log-start (log-length m) (c .args .station)) (length (m .lines)) =
-    start-is (c .args .station) (log-length m) (length (m .lines)) (c .saturating-sub-before .result) (c .saturating-mul .result) (c .saturating-add-first .result) (c .min .result) (omega arith)
-    (c .saturating-sub-before .ensures) (c .saturating-mul .ensures ∙ ap (λ (n : ℕ). min (c .saturating-sub-before .result * n) (2 ^ 64 - 1)) (c .log-length .ensures))
-    (c .saturating-add-first .ensures) (c .min .ensures ∙ ap (min (c .saturating-add-first .result)) (c .line-count .ensures)) in
+    start-is (c .args .station) (log-length m) (length (m .lines)) (c .start-of .result) (c .min .result) (omega arith)
+    (c .start-of .ensures ∙ ap (λ (n : ℕ). min (1 + (c .args .station - 1) * n) (2 ^ 64 - 1)) (c .log-length .ensures)) (omega arith) in
     record { value = value; exact = start-exact (c .args .station) (length (m .lines)) (c .min .result) value }

@@ -1,10 +1,10 @@
 use mathlib.Core.Path.{_≡_}
 use Prim.Native.Nat.{_+_, _-_, _≤_}
-use lib.ListN.{length}
-use Rattle.model.specs.Journal.{log-entries, used-lines, top}
+use Rattle.model.specs.Journal.{log-entries, used-lines}
 use Rattle.journal.specs.Reading.{entries-from}
 use Rattle.journal.proofs.logs.used_lines.Given as given
 
+-- the lines so far, and those of the entries still to read
 abbrev pub Inv-loop-entry : given.InvT-loop-entry
 Inv-loop-entry g l =
     (l .log .first ≤ l .at) × (l .at ≤ l .log .end)
