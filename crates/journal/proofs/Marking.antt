@@ -59,7 +59,7 @@ logs-more m s h k =
     ap (map (log-entries m)) (drop-more stations (s - 1) 0 (let z : s - 1 < 8 = omega arith in z))
     ∙ ap₂ (λ (x n : ℕ). log-entries m x ∷ map (log-entries m) (drop n stations)) here (let z : s - 1 + 1 ≡ s + 1 - 1 = omega arith in z)
 
-pub logs-done : (m : Mem) (s : ℕ) → 9 ≤ s → logs-from m s ≡ []
+logs-done : (m : Mem) (s : ℕ) → 9 ≤ s → logs-from m s ≡ []
 logs-done m s h = ap (map (log-entries m)) (drop-all (s - 1) stations (let z : 8 ≤ s - 1 = omega arith in z))
 
 pub listed : (m : Mem) (s at end : ℕ) → span m at end ≡ log-of m (log-length m) s → 1 ≤ s → s ≤ 8 → Listed m s at end
@@ -68,6 +68,7 @@ listed m s at end e h k =
     logs-more m s h k ∙ ap (λ (ls : List (List ℕ)). entries s 0 ls ∷ logs-from m (s + 1)) (sym e) in
     record {
       next = next;
+      last = λ h. logs-done m (s + 1) (omega arith);
       greatest = λ n. ap (tops n) next;
       agreed = λ i a. ap (λ (fss : List (List Entry)). agree a (holding i fss)) next ∙ agree-both a (holding-entries i (entries-from m s at end)) _;
       held = λ i. ap (λ (fss : List (List Entry)). first (holding i fss)) next ∙ first-both (holding-entries i (entries-from m s at end)) _;

@@ -54,6 +54,7 @@ logs-from m s = map (log-entries m) (drop (s - 1) stations)
 -- the lines from `at` up to `end` are the log of station s: what that makes of all that is read from there on
 pub record Listed (m : Mem) (s at end : ℕ) : Type 0 where
   pub next : logs-from m s ≡ entries-from m s at end ∷ logs-from m (s + 1)
+  pub last : 8 ≤ s → logs-from m (s + 1) ≡ []
   pub greatest : (n : ℕ) → tops n (logs-from m s) ≡ tops (top n (entries-from m s at end)) (logs-from m (s + 1))
   pub agreed : (i : ℕ) (a : List ℕ) → agree a (holding i (logs-from m s)) ≡ (agree a (holding-entries i (entries-from m s at end)) && agree a (holding i (logs-from m (s + 1))))
   pub held : (i : ℕ) → first (holding i (logs-from m s)) ≡ or-else (first (holding-entries i (entries-from m s at end))) (first (holding i (logs-from m (s + 1))))

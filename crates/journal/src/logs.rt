@@ -1,5 +1,6 @@
 // The logs of the stations, and what is read from one or all of them.
 ghost use mathlib.Core.Path.{_≡_};
+ghost use mathlib.Core.List.{[]};
 ghost use Prim.Native.Nat.{_+_, _-_, _*_, _^_, _≤_, min};
 ghost use lib.ListN.{length};
 ghost use Rattle.model.specs.Journal.{log-length, log-start, log-of, log-entries, used-lines, top, tops, last-place, station-count};
@@ -79,6 +80,7 @@ pub fn entry_count<M: Memory>(memory: &M, station: u64) -> usize
 fn greatest_place<M: Memory>(memory: &M, station: u64, least: u64) -> u64
     ensures value { λ r. ⌜ r ≡ top least (log-entries (M·Memory .model (now (memory .entry))) station) ⌝ }
     ensures onward { λ r. ⌜ (1 ≤ station → station ≤ station-count → tops least (logs-from (M·Memory .model (now (memory .entry))) station) ≡ tops r (logs-from (M·Memory .model (now (memory .entry))) (station + 1))) ⌝ }
+    ensures last { λ _. ⌜ (1 ≤ station → station ≡ station-count → logs-from (M·Memory .model (now (memory .entry))) (station + 1) ≡ []) ⌝ }
 {
     let log = log_of(memory, station);
     let mut at = log.first;

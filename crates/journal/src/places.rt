@@ -1,6 +1,7 @@
 // Places: the lines that hold one, and whether they agree.
 ghost use mathlib.Core.Path.{_≡_};
 ghost use mathlib.Core.Bool.{_&&_};
+ghost use mathlib.Core.List.{[]};
 ghost use Prim.Native.Nat.{_+_, _≤_};
 ghost use lib.ListN.{length};
 ghost use Rattle.model.specs.Journal.{logs, log-entries, holding, holding-entries, holding-lines, agree, station-count};
@@ -65,6 +66,7 @@ fn entry_agrees<M: Memory>(memory: &M, found: Found, place: u64, line: [u64; 8])
 fn log_agrees<M: Memory>(memory: &M, station: u64, place: u64, line: [u64; 8]) -> bool
     ensures value { λ r. ⌜ r ≡ agree line (holding-entries place (log-entries (M·Memory .model (now (memory .entry))) station)) ⌝ }
     ensures onward { λ r. ⌜ (1 ≤ station → station ≤ station-count → agree line (holding place (logs-from (M·Memory .model (now (memory .entry))) station)) ≡ (r && agree line (holding place (logs-from (M·Memory .model (now (memory .entry))) (station + 1))))) ⌝ }
+    ensures last { λ _. ⌜ (1 ≤ station → station ≡ station-count → logs-from (M·Memory .model (now (memory .entry))) (station + 1) ≡ []) ⌝ }
 {
     let log = log_of(memory, station);
     let mut at = log.first;

@@ -1,4 +1,5 @@
 use mathlib.Core.Path.{_≡_}
+use mathlib.Core.List.{[]}
 use Prim.Native.Nat.{_+_, _-_, _≤_}
 use Rattle.model.specs.Journal.{holding, holding-entries, logs}
 use Rattle.journal.specs.Places.{first, or-else}
@@ -8,7 +9,8 @@ use Rattle.journal.proofs.places.find_place.Given as given
 -- no log before this station's holds the place
 abbrev pub Inv-loop-station : given.InvT-loop-station
 Inv-loop-station g l =
-    first (holding (l .place) (logs-from (g .M·Memory .model (l .memory)) (l .station))) ≡ first (holding (l .place) (logs (g .M·Memory .model (l .memory))))
+    (9 ≤ l .station → logs-from (g .M·Memory .model (l .memory)) (l .station) ≡ [])
+    × (first (holding (l .place) (logs-from (g .M·Memory .model (l .memory)) (l .station))) ≡ first (holding (l .place) (logs (g .M·Memory .model (l .memory)))))
 
 -- nor does an entry before this line
 abbrev pub Inv-loop-entry : given.InvT-loop-entry
