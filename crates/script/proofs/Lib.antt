@@ -1,0 +1,14 @@
+pub mod Runs
+pub mod Digits
+pub mod Lexing
+pub mod Cutting
+pub mod Patterns
+pub mod Words
+pub mod Chains
+pub mod Table
+pub mod Calls
+pub mod Cuts
+pub mod Whole
+pub mod Keeping
+pub mod Exact
+pub mod Lining
