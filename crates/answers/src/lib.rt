@@ -1,4 +1,6 @@
 // The answers that are printed, one a line.
+#![tactic(auto)]
+
 mod display;
 mod types;
 

@@ -1,4 +1,6 @@
 // Books: objects whose whole behaviour is a state, the sort of each operation, the next state and the reply.
+#![tactic(auto)]
+
 ghost use Rattle.std.specs.Prelude.{◌≡◌};
 ghost use Rattle.book.specs.Rules.{Rules, sort_number, applied, apply_reply, ask_reply};
 

@@ -1,5 +1,7 @@
 // Memories whose stores settle late: a store reaches persistent memory some time after it was made, and a power cut
 // loses those that have not.
+#![tactic(auto)]
+
 ghost use Rattle.std.specs.Prelude.{◌≡◌, ℕ, List, length};
 ghost use Rattle.memory.specs.Model.{Mem, Freedom, Whole, loaded, loaded_line, pushed, stored, marked, written_back, fenced, cut};
 ghost use Rattle.memory.specs.Laws.{SettlesInOrder};

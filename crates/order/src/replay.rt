@@ -12,7 +12,7 @@ impl Order {
     // Applies the update behind the first `at`, where the book has been brought to the state after these.
     fn apply_next<B: Book>(&self, book: &mut B, at: usize) -> (u64, u64)
         requires at_lt_count { at < self.now.count }
-        requires book_value { B.Book.state book.old ≡ state_after (B.Book.rules book.old) (places self.now) at }
+        requires brought { B.Book.state book.old ≡ state_after (B.Book.rules book.old) (places self.now) at }
         ensures fixed { B.Book.rules book.new ≡ B.Book.rules book.old }
         ensures next { B.Book.state book.new ≡ state_after (B.Book.rules book.new) (places self.now) (at + 1) }
         ensures reply { result ≡ reply_at (B.Book.rules book.old) (places self.now) (at + 1) }

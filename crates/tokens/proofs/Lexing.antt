@@ -1,9 +1,8 @@
 -- One token after the other: what the lexer leaves are the tokens behind the one that it gave.
-use Rattle.std.proofs.Common.{◌≡◌, ℕ, ◌+◌, ◌-◌, ◌<◌, ◌≤◌, min, max, Bool, true, false, cond, ◌&&◌, ◌||◌, List, [], ◌∷◌, length, get_or, take, drop, None, Ok, Option, Result, sym, refl, ap, ◌∙◌, ap₂, inl, inr, one-add, arith}
+use Rattle.std.proofs.Common.{◌≡◌, ℕ, ◌+◌, ◌-◌, ◌<◌, ◌≤◌, min, max, Bool, true, false, cond, ◌&&◌, ◌||◌, List, [], ◌∷◌, length, get_or, take, drop, sym, refl, ap, ◌∙◌, ap₂, inl, inr, one-add, arith}
 use Rattle.std.proofs.lemmas.List.{drop-drop, drop_all, drop_more, get_or-take, get_or-drop}
 use Rattle.std.proofs.lemmas.Bool.{cases_Bool, cases_lt, cond-true, cond-false, or_cases, and_parts, false≢true}
-use Rattle.tokens.specs.Tokens.{class_of, is_letter, is_digit, is_blank, joined, run_length, width, Placed, text_shape, shape_at, shape_of_text, tokens_from, tokens_at, next_of, rest_of}
-use Rattle.tokens.specs.declared.types.Fault.{Fault}
+use Rattle.tokens.specs.Tokens.{class_of, is_letter, is_digit, is_blank, joined, run_length, width, Placed, text_shape, shape_at, shape_of_text, tokens_from, tokens_at}
 use Rattle.tokens.specs.declared.types.Class.{Class}
 use Rattle.tokens.specs.declared.types.Class.TheVariants.{Open, Close, Blank, Letter, Digit, Other}
 

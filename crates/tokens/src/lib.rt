@@ -1,4 +1,6 @@
 // The lines of a script, and the tokens of a line.
+#![tactic(auto)]
+
 mod lexer;
 mod lines;
 mod number;

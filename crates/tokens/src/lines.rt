@@ -1,6 +1,6 @@
 ghost use Rattle.std.specs.Prelude.{◌≡◌, ◌+◌, ◌*◌, ◌≤◌, [], ◌∷◌, length, take, drop, MatchOption};
 ghost use Rattle.tokens.specs.Lines.{lines_of, line_length, script_lines};
-ghost use Rattle.tokens.specs.Ahead.{lines-left};
+ghost use Rattle.tokens.specs.Ahead.{lines_left};
 
 // The part of an input that counts: its first 64 KiB.
 fn counted(input: &[u8]) -> &[u8]
@@ -45,7 +45,7 @@ impl<'a> Lines<'a> {
     pub fn new(input: &'a [u8]) -> Self
         ensures input { result.input.now ≡ take (64 * 1024) input.now }
         ensures at { result.at ≡ 0 }
-        ensures lines { lines-left result ≡ script_lines input.now }
+        ensures lines { lines_left result ≡ script_lines input.now }
     {
         Lines {
             input: counted(input),
@@ -57,7 +57,7 @@ impl<'a> Lines<'a> {
     pub fn next(&mut self) -> Option<&'a [u8]>
         ensures input { self.new.input ≡ self.old.input }
         ensures lines { MatchOption result (lines_of (drop self.old.at self.old.input.now) ≡ []) (λ l. lines_of (drop self.old.at self.old.input.now) ≡ l.now ∷ lines_of (drop self.new.at self.new.input.now)) }
-        ensures lines_left { MatchOption result (lines-left self.old ≡ []) (λ l. lines-left self.old ≡ l.now ∷ lines-left self.new) }
+        ensures ahead { MatchOption result (lines_left self.old ≡ []) (λ l. lines_left self.old ≡ l.now ∷ lines_left self.new) }
     {
         let (line, next) = line_at(self.input, self.at)?;
         self.at = next;

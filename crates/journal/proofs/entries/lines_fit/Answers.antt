@@ -5,7 +5,7 @@ use Rattle.journal.proofs.entries.lines_fit.Goals as goal
 
 pub loop-t-init : goal.loop-t-init
 loop-t-init g c = (
-  c.requires.0,
+  c.requires.at_le_end,
   left_all (g.M.Memory.model c.args.memory.now) (word c.args.head 1) (word c.args.head 0) (word c.args.head 1) (word c.args.head 7) c.args.at c.args.end,
 )
 

@@ -6,5 +6,5 @@ use Rattle.journal.proofs.places.line_for.Given as goal
 
 abbrev pub invariant-loop-at : goal.invariant-loop-at
 invariant-loop-at g l =
-    first (holding_lines l.place (span (g.M.Memory.model l.memory) l.at l.at_end))
-    ≡ first (holding_lines l.place (span (g.M.Memory.model l.memory) l.initial.at l.at_end))
+    first (holding_lines l.place (span (g.M.Memory.model l.memory) l.at l.at-end))
+    ≡ first (holding_lines l.place (span (g.M.Memory.model l.memory) l.initial.at l.at-end))

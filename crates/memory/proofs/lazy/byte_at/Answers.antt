@@ -9,4 +9,4 @@ got bytes l (Some b) found = found.3.1 0
 got bytes l None found = sym (get_or_past bytes l 0 found.3)
 
 pub returns : goal.returns
-returns c = c.unwrap-or.ensures ∙ ap (λ (o : Option ℕ). unwrap_or o 0) c.copied.ensures ∙ got c.args.bytes.now c.args.l c.get.result c.get.ensures.lookup
+returns c = c.unwrap_or.ensures ∙ ap (λ (o : Option ℕ). unwrap_or o 0) c.copied.ensures ∙ got c.args.bytes.now c.args.l c.get.result c.get.ensures.lookup

@@ -7,8 +7,8 @@ use Rattle.memory.proofs.line.made.Goals as goal
 pub bounds-words-s : goal.bounds-words-s
 bounds-words-s c = All-get_or _ c.args.stores.now c.loop-s.s-index _ c.loop-s-test.true c.requires
 
-pub offset-bounds-words-s : goal.offset-bounds-words-s
-offset-bounds-words-s c = let within = All-get_or _ c.args.stores.now c.loop-s.s-index (record { word = 0; value = 0 }) c.loop-s-test.true c.requires in search rules
+pub offset_bounds-words-s : goal.offset_bounds-words-s
+offset_bounds-words-s c = let within = All-get_or _ c.args.stores.now c.loop-s.s-index (record { word = 0; value = 0 }) c.loop-s-test.true c.requires in search rules
 
 pub loop-s-preserved : goal.loop-s-preserved
 loop-s-preserved c = (length-set c.loop-s.words _ _ ∙ c.loop-s.invariant.0, sym (at_drop_more (written c.loop-s.words) c.args.stores.now c.loop-s.s-index _ c.loop-s-test.true) ∙ c.loop-s.invariant.1)

@@ -8,7 +8,7 @@ returns-then-line-words c =
     let ws = c.args.words.now in
     let l = c.args.line in
     let width : 8 * l + 8 - 8 * l ≡ 8 = omega arith in
-    c.copy-from-slice.ensures.after ∙ ap (λ k. take k (drop (8 * l) ws)) width ∙ ap words_of (sym (line_there (length ws / 8) l ws c.if-line-words.true))
+    c.copy_from_slice.ensures.after ∙ ap (λ k. take k (drop (8 * l) ws)) width ∙ ap words_of (sym (line_there (length ws / 8) l ws c.if-line-words.true))
 
 pub returns-else-line-words : goal.returns-else-line-words
 returns-else-line-words c = words_absent c.args.words.now 0 c.args.line c.if-line-words.false

@@ -7,7 +7,7 @@ use Rattle.powercut.proofs.record.fenced.Goals as goal
 pub returns : goal.returns
 returns g c blank =
     let w = c.write.ensures in
-    let a = c.write-back.ensures.asked in
+    let a = c.write_back.ensures.asked in
     let f = c.fence.ensures.fenced in
     let k = c.cut.ensures.cut in
     c.find.ensures

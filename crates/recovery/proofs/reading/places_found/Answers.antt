@@ -5,6 +5,6 @@ use Rattle.recovery.proofs.reading.places_found.Goals as goal
 
 pub returns : goal.returns
 returns g c = record {
-  value = c.last-place.ensures;
-  within = subst (λ (k : ℕ). k ≤ max_place) (sym c.last-place.ensures) (last_within (g.M.Memory.model c.args.memory.now));
+  value = c.last_place.ensures;
+  within = subst (λ (k : ℕ). k ≤ max_place) (sym c.last_place.ensures) (last_within (g.M.Memory.model c.args.memory.now));
 }

@@ -20,13 +20,13 @@ loop-passed-preserved g c =
     let os = places c.loop-passed.order in
     let room : c.push.result ≡ true = c.push.ensures.room ∙ lt-ltb _ 256 (omega (arith, c.loop-passed.invariant.count)) in
     subst (Passed R fss c.args.count (k + 1)) (sym (c.push.ensures.after ∙ cond-true _ _ _ room))
-    (passed_more R fss c.args.count k os c.loop-passed.invariant c.loop-passed-test.true c.in-ok-update.update c.in-ok-update.ensures.0 c.in-ok-update.ensures.1)
+    (passed_more R fss c.args.count k os c.loop-passed.invariant c.loop-passed-test.true c.in_ok-update.update c.in_ok-update.ensures.0 c.in_ok-update.ensures.1)
 
-pub returns-in-err-update : goal.returns-in-err-update
-returns-in-err-update g c =
+pub returns-in_err-update : goal.returns-in_err-update
+returns-in_err-update g c =
     let R = g.B.Book.rules c.args.book.now in
     let fss = logs (g.M.Memory.model c.args.memory.now) in
-    let refused = passed_refused R fss c.args.count c.loop-passed.passed (places c.loop-passed.order) c.loop-passed.invariant c.loop-passed-test.true c.in-err-update.field-0.0 c.in-err-update.ensures in
+    let refused = passed_refused R fss c.args.count c.loop-passed.passed (places c.loop-passed.order) c.loop-passed.invariant c.loop-passed-test.true c.in_err-update.field-0.0 c.in_err-update.ensures in
     search rules
 
 pub returns : goal.returns

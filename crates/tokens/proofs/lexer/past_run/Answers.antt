@@ -5,16 +5,16 @@ use Rattle.tokens.proofs.lexer.past_run.Goals as goal
 
 pub loop-end-preserved : goal.loop-end-preserved
 loop-end-preserved c =
-    let more = run_more c.args.class c.args.line.now c.loop-end.end c.class-of.result c.class-of.ensures c.loop-end-test.true c.if-are-joined.ensures in
+    let more = run_more c.args.class c.args.line.now c.loop-end.end c.class_of.result c.class_of.ensures c.loop-end-test.true c.if-are_joined.ensures in
     (omega arith, omega (arith, c.loop-end.invariant.1))
 
-pub returns-else-are-joined : goal.returns-else-are-joined
-returns-else-are-joined c =
-    let ends = run_ends c.args.class c.args.line.now c.loop-end.end c.class-of.result c.class-of.ensures c.loop-end-test.true c.if-are-joined.ensures in
+pub returns-else-are_joined : goal.returns-else-are_joined
+returns-else-are_joined c =
+    let ends = run_ends c.args.class c.args.line.now c.loop-end.end c.class_of.result c.class_of.ensures c.loop-end-test.true c.if-are_joined.ensures in
     record {
       value = omega (arith, c.loop-end.invariant.1);
       within = c.loop-end.invariant.0;
-      ends = λ _. sym (c.if-are-joined.ensures ∙ ap (joined c.args.class) c.class-of.ensures);
+      ends = λ _. sym (c.if-are_joined.ensures ∙ ap (joined c.args.class) c.class_of.ensures);
     }
 
 pub returns-after-loop-end : goal.returns-after-loop-end

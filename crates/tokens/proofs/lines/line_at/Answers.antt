@@ -5,4 +5,4 @@ pub returns-then-at-input : goal.returns-then-at-input
 returns-then-at-input c = no_lines c.args.input.now c.args.at c.if-at-input.true
 
 pub returns : goal.returns
-returns c = line_there c.args.input.now c.args.at c.line-end-end.result c.if-at-input.false c.line-end-end.ensures.value
+returns c = line_there c.args.input.now c.args.at c.line_end-end.result c.if-at-input.false c.line_end-end.ensures.value

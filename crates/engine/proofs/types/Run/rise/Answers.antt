@@ -4,11 +4,11 @@ use Rattle.engine.proofs.types.Run.rise.Goals as goal
 
 pub returns : goal.returns
 returns g c = record {
-  answer = c.rise-once.ensures.answer;
-  leaves = c.rise-once.ensures.leaves;
-  aside = c.rise-once.ensures.aside;
-  same = c.rise-once.ensures.same;
+  answer = c.rise_once.ensures.answer;
+  leaves = c.rise_once.ensures.leaves;
+  aside = c.rise_once.ensures.aside;
+  same = c.rise_once.ensures.same;
   lasting =
       rise_onward (g.B.Book.rules c.args.self.now.book) (view g.M.Memory.model g.B.Book.rules g.B.Book.state c.args.self.now)
-      (view g.M.Memory.model g.B.Book.rules g.B.Book.state c.rise-once.new.self) c.rise-once.result c.rise-once.ensures.leaves.0 c.rise-once.ensures.answer c.rise-once.ensures.leaves.2;
+      (view g.M.Memory.model g.B.Book.rules g.B.Book.state c.rise_once.new.self) c.rise_once.result c.rise_once.ensures.leaves.0 c.rise_once.ensures.answer c.rise_once.ensures.leaves.2;
 }

@@ -8,7 +8,7 @@ pub loop-pair-preserved : goal.loop-pair-preserved
 loop-pair-preserved g c = λ plain.
     let before = c.loop-pair.invariant plain in
     has_written_of_eq _ _ _ _ _ (pair_more c.listed-pair-items.result.now c.loop-pair.pair-index _ c.loop-pair-test.true)
-    (has_written_append _ _ _ _ _ _ before (c.in-ok-fmt.ensures before.plain refl))
+    (has_written_append _ _ _ _ _ _ before (c.in_ok-fmt.ensures.writes before.plain refl))
 
 pub returns-clause-writes : goal.returns-clause-writes
 returns-clause-writes g c = λ plain _.

@@ -1,6 +1,5 @@
-use Rattle.std.proofs.Common.{◌≡◌, ◌-◌, List, take, ap, ◌∙◌, arith}
+use Rattle.std.proofs.Common.{◌≡◌, ◌-◌, take, ap, ◌∙◌, arith}
 use Rattle.memory.specs.Model.{written}
-use Rattle.memory.specs.declared.types.Store.{Store}
 use Rattle.memory.proofs.Records.{some_within}
 use Rattle.memory.proofs.types.LineRec.made_first.Goals as goal
 

@@ -11,16 +11,16 @@ pub returns : goal.returns
 returns g c =
     let o = c.args.self.now in
     let R = g.B.Book.rules c.args.book.now in
-    let there = sym (get_or-take o.count o.nodes c.args.at no_node c.requires.0) in
+    let there = sym (get_or-take o.count o.nodes c.args.at no_node c.requires.at_lt_count) in
     record {
       fixed = c.apply.ensures.fixed;
       next =
           c.apply.ensures.next
-          ∙ ap₂ (λ (s : g.B.Book.State) (n : Node). applied R s n.update.op) c.requires.1 there
-          ∙ sym (state_more R (places o) c.args.at (simp length-take (omega (arith, o.sized, o.within, c.requires.0))))
+          ∙ ap₂ (λ (s : g.B.Book.State) (n : Node). applied R s n.update.op) c.requires.brought there
+          ∙ sym (state_more R (places o) c.args.at (simp length-take (omega (arith, o.sized, o.within, c.requires.at_lt_count))))
           ∙ ap (λ (R : Rules g.B.Book.State). state_after R (places o) (c.args.at + 1)) (sym c.apply.ensures.fixed);
       reply =
           c.apply.ensures.reply
-          ∙ ap₂ (λ (s : g.B.Book.State) (n : Node). apply_reply R s n.update.op) c.requires.1 there
+          ∙ ap₂ (λ (s : g.B.Book.State) (n : Node). apply_reply R s n.update.op) c.requires.brought there
           ∙ sym (reply_next R (places o) c.args.at);
     }

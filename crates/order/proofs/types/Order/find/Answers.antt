@@ -11,15 +11,15 @@ loop-at-preserved c =
     let long = first_length o.nodes o.count c.args.top (omega (arith, o.sized, o.within)) in
     let there : c.loop-at.at < length (take c.args.top (places o)) = omega arith in
     sought_more (take c.args.top (places o)) c.args.run c.args.station c.args.call c.loop-at.at there c.loop-at.invariant
-    (c.if-is-of.ensures ∙ ap (λ (n : Node). has_identity n.update c.args.run c.args.station c.args.call) (sym (first_of o.nodes o.count c.args.top c.loop-at.at (omega arith) (omega arith))))
+    (c.if-is_of.ensures ∙ ap (λ (n : Node). has_identity n.update c.args.run c.args.station c.args.call) (sym (first_of o.nodes o.count c.args.top c.loop-at.at (omega arith) (omega arith))))
 
-pub returns-then-is-of : goal.returns-then-is-of
-returns-then-is-of c =
+pub returns-then-is_of : goal.returns-then-is_of
+returns-then-is_of c =
     let o = c.args.self.now in
     let long = first_length o.nodes o.count c.args.top (omega (arith, o.sized, o.within)) in
     let there : c.loop-at.at < length (take c.args.top (places o)) = omega arith in
     sought_there (take c.args.top (places o)) c.args.run c.args.station c.args.call c.loop-at.at there c.loop-at.invariant
-    (c.if-is-of.ensures ∙ ap (λ (n : Node). has_identity n.update c.args.run c.args.station c.args.call) (sym (first_of o.nodes o.count c.args.top c.loop-at.at (omega arith) (omega arith))))
+    (c.if-is_of.ensures ∙ ap (λ (n : Node). has_identity n.update c.args.run c.args.station c.args.call) (sym (first_of o.nodes o.count c.args.top c.loop-at.at (omega arith) (omega arith))))
 
 pub returns : goal.returns
 returns c =
