@@ -1,4 +1,6 @@
 // A day at the booking desk: each action and its reply, a line each.
+#![tactic(auto)]
+
 mod day;
 mod lines;
 

@@ -7,7 +7,6 @@ use Rattle.model.specs.History.{Moment, World, Happens}
 use Rattle.model.specs.History.World.{resting, running}
 use Rattle.model.specs.declared.types.Refusal.{Refusal}
 use Rattle.model.specs.declared.types.Started.{Started}
-use Rattle.model.specs.declared.types.Status.{Status}
 use Rattle.model.proofs.Lasting.{lasting}
 use Rattle.engine.specs.Onward.{Onward}
 

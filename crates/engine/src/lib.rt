@@ -1,4 +1,6 @@
 // The run.
+#![tactic(auto)]
+
 mod calls;
 mod run;
 mod types;

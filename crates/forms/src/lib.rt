@@ -1,4 +1,6 @@
 // The forms of a script, what they stand for, and their plain spelling.
+#![tactic(auto)]
+
 mod display;
 mod meaning;
 mod types;

@@ -1,4 +1,6 @@
 // The journal: how entries are read from the logs of a memory.
+#![tactic(auto)]
+
 ghost use Rattle.model.specs.Journal.{ReadsBack};
 ghost use Rattle.journal.specs.Laws.{LaysDown, LoadsDecide};
 

@@ -1,4 +1,6 @@
 // Entries of several stations are laid down in a memory, some whole and some cut short, and read back.
+#![tactic(auto)]
+
 mod laying;
 mod report;
 

@@ -5,7 +5,7 @@ use Rattle.std.specs.List.{AllByRecursion as All}
 use Rattle.memory.specs.Model.{Mem}
 use Rattle.book.specs.declared.types.Op.{Op}
 use Rattle.book.specs.Rules.{Rules, Reply, apply_reply, ask_reply, after}
-use Rattle.model.specs.Journal.{max_run, max_lines, station_count, Entry, logs}
+use Rattle.model.specs.Journal.{max_run, max_lines, station_count, logs}
 use Rattle.model.specs.Machine.{Machine, no_update, found}
 use Rattle.model.specs.History.{Moment, World, Led, Came, Tells, ledger, updates, found_count, Made, newest, fences_since}
 use Rattle.model.specs.History.Moment.{started, called, stepped, told, cut}

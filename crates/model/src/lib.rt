@@ -1,4 +1,6 @@
 // What a run is: its plain types, the journal's format, and what each call does.
+#![tactic(auto)]
+
 ghost use Rattle.std.specs.Prelude.{◌≡◌};
 ghost use Rattle.model.specs.Examples.{Worked};
 ghost use Rattle.model.specs.Law.{Lasting};

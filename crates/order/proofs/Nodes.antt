@@ -1,9 +1,9 @@
 -- The first nodes of an array as the places of an order: one more, one flagged, and a search through them.
-use Rattle.std.proofs.Common.{◌≡◌, ℕ, zero, suc, ◌+◌, ◌<◌, ◌≤◌, min, true, false, cond, List, [], ◌∷◌, length, get_or, take, drop, set, Some, None, Option, sym, refl, ap, ◌∙◌, inl, inr, add-one, arith}
-use Rattle.std.proofs.lemmas.List.{get_or-take, get_or_past, length-take, set_past, take_all, take-take, at_drop_more, at_drop_all}
+use Rattle.std.proofs.Common.{◌≡◌, ℕ, zero, suc, ◌+◌, ◌<◌, ◌≤◌, min, true, false, cond, List, [], ◌∷◌, length, get_or, take, drop, set, Some, None, sym, refl, ap, ◌∙◌, arith}
+use Rattle.std.proofs.lemmas.List.{get_or-take, get_or_past, length-take, set_past, at_drop_more, at_drop_all}
 use Rattle.std.proofs.lemmas.Bool.{cond-true, cond-false}
 use Rattle.model.specs.declared.types.Node.{Node}
-use Rattle.model.specs.Machine.{no_node, highest_from, highest_flag, has_identity, place_of}
+use Rattle.model.specs.Machine.{no_node, highest_from, has_identity, place_of}
 
 -- past the end there is no node
 pub past_end : (n : ℕ) (xs : List Node) (i : ℕ) → n ≤ i → get_or (take n xs) i no_node ≡ no_node

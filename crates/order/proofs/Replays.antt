@@ -1,9 +1,9 @@
 -- The state after the first updates of an order, one update at a time.
-use Rattle.std.proofs.Common.{◌≡◌, ℕ, ◌+◌, ◌<◌, ◌≤◌, min, List, [], ◌∷◌, ◌++◌, length, get_or, take, sym, refl, ap, ◌∙◌, ap₂, inl, inr, add-one, arith}
+use Rattle.std.proofs.Common.{◌≡◌, ℕ, ◌+◌, ◌<◌, min, List, [], ◌∷◌, ◌++◌, length, get_or, take, sym, refl, ap, ◌∙◌, inl, inr, add-one, arith}
 use Rattle.std.proofs.lemmas.List.{take_more, take_all}
 use Rattle.std.proofs.lemmas.Bool.{cases_lt}
 use Rattle.book.specs.declared.types.Op.{Op}
-use Rattle.book.specs.Rules.{Rules, Reply, applied, apply_reply, after}
+use Rattle.book.specs.Rules.{Rules, applied, apply_reply, after}
 use Rattle.model.specs.declared.types.Node.{Node}
 use Rattle.model.specs.Machine.{no_node, ops, state_after, reply_at}
 

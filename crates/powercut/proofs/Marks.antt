@@ -1,5 +1,5 @@
 -- A mark stored last tells whether the booking before it survived.
-use Rattle.std.proofs.Common.{◌≡◌, ℕ, zero, suc, ◌+◌, ◌≤◌, List, [], ◌∷◌, ◌++◌, length, take, replicate, Some, sym, refl, ap, ◌∙◌, subst, arith}
+use Rattle.std.proofs.Common.{◌≡◌, ℕ, zero, suc, ◌≤◌, List, [], ◌∷◌, ◌++◌, length, take, replicate, Some, sym, refl, ap, ◌∙◌, subst, arith}
 use Rattle.std.proofs.lemmas.List.{take_all}
 use Rattle.memory.specs.Model.{Mem, Line, line_at, written, loaded_line, cut, Whole}
 use Rattle.memory.specs.Laws.{Done, after, made_on, counted_all, promised_of, Survived}

@@ -1,4 +1,6 @@
 // What a start finds in a memory: the questions that it asks, the order and the stations.
+#![tactic(auto)]
+
 mod reading;
 mod types;
 

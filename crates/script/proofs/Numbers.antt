@@ -1,5 +1,5 @@
 -- A number in decimal is one token, and is read as itself.
-use Rattle.std.proofs.Common.{◌≡◌, ℕ, ◌+◌, ◌^◌, ◌<◌, ◌≤◌, max, true, false, cond, not, ◌&&◌, ◌||◌, eqb, ltb, leb, List, [], ◌∷◌, ◌++◌, length, get_or, take, Ok, Err, decimal, sym, refl, ap, ◌∙◌, ap₂, inl, inr, one-add, arith, rules}
+use Rattle.std.proofs.Common.{◌≡◌, ℕ, ◌+◌, ◌^◌, ◌<◌, ◌≤◌, max, true, false, cond, not, ◌&&◌, ◌||◌, eqb, ltb, leb, List, [], ◌∷◌, ◌++◌, length, get_or, take, Ok, Err, decimal, refl, ap, ◌∙◌, ap₂, inl, inr, one-add, arith, rules}
 use Rattle.std.proofs.lemmas.Fmt.{decimal_digit, decimal_nonempty, first_decimal, digits_decimal, digits_value-decimal}
 use Rattle.std.proofs.lemmas.Str.Parse.{IsNumeralModel, numerals_by_fold, tells_all_ascii_digits}
 use Rattle.std.proofs.lemmas.List.{take-append-le, take_all}
@@ -9,7 +9,7 @@ use Rattle.std.specs.Str.{all_ascii_digits}
 use Rattle.tokens.specs.declared.types.Class.{Class}
 use Rattle.tokens.specs.declared.types.Class.TheVariants.{Digit}
 use Rattle.tokens.specs.Tokens.{class_of, is_digit, is_blank, joined, run_length, shape_at, number, Placed, tokens_from, plain, value, value_on, unreadable}
-use Rattle.script.specs.Reading.{Step, then, if_number, number_within}
+use Rattle.script.specs.Reading.{then, if_number, number_within}
 
 own : IsNumeralModel (λ ds. all_ascii_digits ds ≡ true) value
 own = numerals_by_fold _ tells_all_ascii_digits value_on (search rules)

@@ -14,8 +14,7 @@ use Rattle.forms.specs.declared.types.BookKind.TheVariants.{Tally, Slots}
 use Rattle.forms.specs.declared.types.Request.{Request}
 use Rattle.forms.specs.declared.types.Request.TheVariants.{Add, Read, Reserve, Cancel, Holder}
 use Rattle.forms.specs.Spoken.{Spoken, memory, object, start, rise, call, steps, outcome, cut, Proper, ProperRequest, ProperPair}
-use Rattle.forms.specs.Spelling.{spelled_request, spelled_pair, spelled_pairs, spelled}
-use Rattle.script.specs.Grammar.{read_line}
+use Rattle.forms.specs.Spelling.{spelled_request, spelled_pairs, spelled}
 use Rattle.script.specs.Laws.{ReadsBack}
 use Rattle.script.specs.Reading.{Step, then, number_within, request, pair, cut_form, some_form, finished}
 use Rattle.script.proofs.Numbers.{reads_number}

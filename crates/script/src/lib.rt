@@ -1,4 +1,6 @@
 // The reader of a script's lines.
+#![tactic(auto)]
+
 ghost use Rattle.script.specs.Laws.{ReadsExactly, ReadsBack};
 
 mod expect;

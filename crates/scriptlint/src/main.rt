@@ -1,4 +1,6 @@
 // Reads a script from standard input, and prints for each line the form in its plain spelling, or the fault.
+#![tactic(auto)]
+
 ghost use Rattle.std.specs.Prelude.{◌≤◌, length, IfOk};
 
 use answers::Answer;

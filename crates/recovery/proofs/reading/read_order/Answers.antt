@@ -1,6 +1,5 @@
-use Rattle.std.proofs.Common.{◌≡◌, ◌+◌, true, cond, List, sym, ap, ◌∙◌, subst, arith, rules}
+use Rattle.std.proofs.Common.{◌≡◌, ◌+◌, true, sym, ◌∙◌, subst, arith, rules}
 use Rattle.std.proofs.lemmas.Bool.{cond-true, lt-ltb}
-use Rattle.model.specs.declared.types.Node.{Node}
 use Rattle.model.specs.Journal.{logs}
 use Rattle.order.specs.Places.{places}
 use Rattle.recovery.proofs.Onward.{Passed, passed_none, passed_refused, passed_more, passed_all}
