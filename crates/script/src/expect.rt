@@ -21,6 +21,7 @@ pub fn same(a: &[u8], b: &[u8]) -> bool
 
 // The next token, which has to be there.
 pub fn token<'a>(lexer: &mut Lexer<'a>) -> Result<(Token<'a>, usize), Fault>
+    ensures line { lexer.new.line ≡ lexer.old.line }
     ensures length { line_length lexer.new ≡ line_length lexer.old }
     ensures answer { went (placed_in result) (left lexer.new) ≡ next_token (line_length lexer.old) (left lexer.old) }
 {
@@ -31,6 +32,7 @@ pub fn token<'a>(lexer: &mut Lexer<'a>) -> Result<(Token<'a>, usize), Fault>
 }
 
 pub fn open(lexer: &mut Lexer) -> Result<(), Fault>
+    ensures line { lexer.new.line ≡ lexer.old.line }
     ensures length { line_length lexer.new ≡ line_length lexer.old }
     ensures answer { went result (left lexer.new) ≡ open_bracket (line_length lexer.old) (left lexer.old) }
 {
@@ -42,6 +44,7 @@ pub fn open(lexer: &mut Lexer) -> Result<(), Fault>
 }
 
 pub fn close(lexer: &mut Lexer) -> Result<(), Fault>
+    ensures line { lexer.new.line ≡ lexer.old.line }
     ensures length { line_length lexer.new ≡ line_length lexer.old }
     ensures answer { went result (left lexer.new) ≡ close_bracket (line_length lexer.old) (left lexer.old) }
 {
@@ -54,6 +57,7 @@ pub fn close(lexer: &mut Lexer) -> Result<(), Fault>
 
 // A word and its column.
 pub fn word<'a>(lexer: &mut Lexer<'a>) -> Result<(&'a [u8], usize), Fault>
+    ensures line { lexer.new.line ≡ lexer.old.line }
     ensures length { line_length lexer.new ≡ line_length lexer.old }
     ensures answer { went (word_in result) (left lexer.new) ≡ some_word (line_length lexer.old) (left lexer.old) }
 {
@@ -66,6 +70,7 @@ pub fn word<'a>(lexer: &mut Lexer<'a>) -> Result<(&'a [u8], usize), Fault>
 
 // A number from `low` to `high`.
 pub fn number(lexer: &mut Lexer, low: u64, high: u64) -> Result<u64, Fault>
+    ensures line { lexer.new.line ≡ lexer.old.line }
     ensures length { line_length lexer.new ≡ line_length lexer.old }
     ensures answer { went result (left lexer.new) ≡ number_within low high (line_length lexer.old) (left lexer.old) }
     ensures within { IfOk result (λ n. (low ≤ n) × (n ≤ high)) }

@@ -10,6 +10,7 @@ use forms::{BookKind, Form, MemoryKind, Pair, Pairs, Request};
 use tokens::{Fault, Lexer, Token};
 
 fn memory_kind(lexer: &mut Lexer) -> Result<MemoryKind, Fault>
+    ensures line { lexer.new.line ≡ lexer.old.line }
     ensures length { line_length lexer.new ≡ line_length lexer.old }
     ensures answer { went result (left lexer.new) ≡ kind_word (line_length lexer.old) (left lexer.old) }
 {
@@ -24,6 +25,7 @@ fn memory_kind(lexer: &mut Lexer) -> Result<MemoryKind, Fault>
 }
 
 fn read_memory(lexer: &mut Lexer) -> Result<Form, Fault>
+    ensures line { lexer.new.line ≡ lexer.old.line }
     ensures length { line_length lexer.new ≡ line_length lexer.old }
     ensures answer { went (said result) (left lexer.new) ≡ memory_form (line_length lexer.old) (left lexer.old) }
     ensures proper { IfOk result (λ f. Proper (spoken_by f)) }
@@ -35,6 +37,7 @@ fn read_memory(lexer: &mut Lexer) -> Result<Form, Fault>
 }
 
 fn book_kind(lexer: &mut Lexer) -> Result<BookKind, Fault>
+    ensures line { lexer.new.line ≡ lexer.old.line }
     ensures length { line_length lexer.new ≡ line_length lexer.old }
     ensures answer { went result (left lexer.new) ≡ book_word (line_length lexer.old) (left lexer.old) }
 {
@@ -49,6 +52,7 @@ fn book_kind(lexer: &mut Lexer) -> Result<BookKind, Fault>
 }
 
 fn read_object(lexer: &mut Lexer) -> Result<Form, Fault>
+    ensures line { lexer.new.line ≡ lexer.old.line }
     ensures length { line_length lexer.new ≡ line_length lexer.old }
     ensures answer { went (said result) (left lexer.new) ≡ object_form (line_length lexer.old) (left lexer.old) }
     ensures proper { IfOk result (λ f. Proper (spoken_by f)) }
@@ -59,6 +63,7 @@ fn read_object(lexer: &mut Lexer) -> Result<Form, Fault>
 }
 
 fn read_start(lexer: &mut Lexer) -> Result<Form, Fault>
+    ensures line { lexer.new.line ≡ lexer.old.line }
     ensures length { line_length lexer.new ≡ line_length lexer.old }
     ensures answer { went (said result) (left lexer.new) ≡ start_form (line_length lexer.old) (left lexer.old) }
     ensures proper { IfOk result (λ f. Proper (spoken_by f)) }
@@ -68,6 +73,7 @@ fn read_start(lexer: &mut Lexer) -> Result<Form, Fault>
 }
 
 fn read_rise(lexer: &mut Lexer) -> Result<Form, Fault>
+    ensures line { lexer.new.line ≡ lexer.old.line }
     ensures length { line_length lexer.new ≡ line_length lexer.old }
     ensures answer { went (said result) (left lexer.new) ≡ rise_form (line_length lexer.old) (left lexer.old) }
     ensures proper { IfOk result (λ f. Proper (spoken_by f)) }
@@ -77,6 +83,7 @@ fn read_rise(lexer: &mut Lexer) -> Result<Form, Fault>
 }
 
 fn reserve(lexer: &mut Lexer) -> Result<Request, Fault>
+    ensures line { lexer.new.line ≡ lexer.old.line }
     ensures length { line_length lexer.new ≡ line_length lexer.old }
     ensures answer { went result (left lexer.new) ≡ reserve_request (line_length lexer.old) (left lexer.old) }
     ensures proper { IfOk result ProperRequest }
@@ -91,6 +98,7 @@ fn reserve(lexer: &mut Lexer) -> Result<Request, Fault>
 
 // What stands behind an operation's word.
 fn request_by(lexer: &mut Lexer, text: &[u8], column: usize) -> Result<Request, Fault>
+    ensures line { lexer.new.line ≡ lexer.old.line }
     ensures length { line_length lexer.new ≡ line_length lexer.old }
     ensures answer { went result (left lexer.new) ≡ request_by text.now column (line_length lexer.old) (left lexer.old) }
     ensures proper { IfOk result ProperRequest }
@@ -114,6 +122,7 @@ fn request_by(lexer: &mut Lexer, text: &[u8], column: usize) -> Result<Request, 
 }
 
 fn read_request(lexer: &mut Lexer) -> Result<Request, Fault>
+    ensures line { lexer.new.line ≡ lexer.old.line }
     ensures length { line_length lexer.new ≡ line_length lexer.old }
     ensures answer { went result (left lexer.new) ≡ request (line_length lexer.old) (left lexer.old) }
     ensures proper { IfOk result ProperRequest }
@@ -126,6 +135,7 @@ fn read_request(lexer: &mut Lexer) -> Result<Request, Fault>
 }
 
 fn read_call(lexer: &mut Lexer) -> Result<Form, Fault>
+    ensures line { lexer.new.line ≡ lexer.old.line }
     ensures length { line_length lexer.new ≡ line_length lexer.old }
     ensures answer { went (said result) (left lexer.new) ≡ call_form (line_length lexer.old) (left lexer.old) }
     ensures proper { IfOk result (λ f. Proper (spoken_by f)) }
@@ -137,6 +147,7 @@ fn read_call(lexer: &mut Lexer) -> Result<Form, Fault>
 }
 
 fn read_steps(lexer: &mut Lexer) -> Result<Form, Fault>
+    ensures line { lexer.new.line ≡ lexer.old.line }
     ensures length { line_length lexer.new ≡ line_length lexer.old }
     ensures answer { went (said result) (left lexer.new) ≡ steps_form (line_length lexer.old) (left lexer.old) }
     ensures proper { IfOk result (λ f. Proper (spoken_by f)) }
@@ -148,6 +159,7 @@ fn read_steps(lexer: &mut Lexer) -> Result<Form, Fault>
 }
 
 fn read_outcome(lexer: &mut Lexer) -> Result<Form, Fault>
+    ensures line { lexer.new.line ≡ lexer.old.line }
     ensures length { line_length lexer.new ≡ line_length lexer.old }
     ensures answer { went (said result) (left lexer.new) ≡ outcome_form (line_length lexer.old) (left lexer.old) }
     ensures proper { IfOk result (λ f. Proper (spoken_by f)) }
@@ -165,6 +177,7 @@ fn read_outcome(lexer: &mut Lexer) -> Result<Form, Fault>
 
 // A pair behind its opening bracket.
 fn read_pair(lexer: &mut Lexer) -> Result<Pair, Fault>
+    ensures line { lexer.new.line ≡ lexer.old.line }
     ensures length { line_length lexer.new ≡ line_length lexer.old }
     ensures answer { went (pair_in result) (left lexer.new) ≡ pair (line_length lexer.old) (left lexer.old) }
     ensures proper { IfOk result (λ p. ProperPair (pair_of p)) }
@@ -189,6 +202,7 @@ fn may_follow(count: usize) -> bool
 
 // Up to 16 pairs and the bracket behind them.
 fn read_cut(lexer: &mut Lexer) -> Result<Form, Fault>
+    ensures line { lexer.new.line ≡ lexer.old.line }
     ensures length { line_length lexer.new ≡ line_length lexer.old }
     ensures answer { went (said result) (left lexer.new) ≡ cut_form 16 [] (line_length lexer.old) (left lexer.old) }
     ensures proper { IfOk result (λ f. Proper (spoken_by f)) }
@@ -212,6 +226,7 @@ fn read_cut(lexer: &mut Lexer) -> Result<Form, Fault>
 
 // What stands behind a form's word.
 fn form_by(lexer: &mut Lexer, text: &[u8], column: usize) -> Result<Form, Fault>
+    ensures line { lexer.new.line ≡ lexer.old.line }
     ensures length { line_length lexer.new ≡ line_length lexer.old }
     ensures answer { went (said result) (left lexer.new) ≡ form_by text.now column (line_length lexer.old) (left lexer.old) }
     ensures proper { IfOk result (λ f. Proper (spoken_by f)) }
@@ -238,6 +253,7 @@ fn form_by(lexer: &mut Lexer, text: &[u8], column: usize) -> Result<Form, Fault>
 }
 
 fn read_form(lexer: &mut Lexer) -> Result<Form, Fault>
+    ensures line { lexer.new.line ≡ lexer.old.line }
     ensures length { line_length lexer.new ≡ line_length lexer.old }
     ensures answer { went (said result) (left lexer.new) ≡ some_form (line_length lexer.old) (left lexer.old) }
     ensures proper { IfOk result (λ f. Proper (spoken_by f)) }

@@ -25,10 +25,11 @@ loop-found-preserved c =
     let few : c.loop-found.count < 16 = c.if-not-may_follow.ensures in
     let lines = c.in_ok-pairs.ensures.length in
     let answer = pair_read c.loop-found.count c.loop-found.pairs (line_length c.loop-found.lexer) (left c.loop-found.lexer) c.in_ok-found.found c.in_ok-found.column (left c.token.new.lexer) c.in-Open.is c.in_ok-found.ensures.answer few (line_length c.token.new.lexer) c.token.ensures.length c.in_ok-pairs.field-0 (left c.read_pair.new.lexer) (line_length c.read_pair.new.lexer) c.in_ok-pairs.ensures.answer lines (omega arith) ∙ c.loop-found.invariant.4 in
-    (lines ∙ c.token.ensures.length ∙ c.loop-found.invariant.0, omega arith, simp length-set (omega arith), proper_more c.loop-found.pairs c.loop-found.count c.in_ok-pairs.field-0 (omega arith) c.loop-found.invariant.3 c.in_ok-pairs.ensures.proper, answer)
+    (lines ∙ c.token.ensures.length ∙ c.loop-found.invariant.0, omega arith, simp length-set (omega arith), proper_more c.loop-found.pairs c.loop-found.count c.in_ok-pairs.field-0 (omega arith) c.loop-found.invariant.3 c.in_ok-pairs.ensures.proper, answer, c.in_ok-pairs.ensures.line ∙ c.token.ensures.line ∙ c.loop-found.invariant.5)
 
 pub returns-in-Close : goal.returns-in-Close
 returns-in-Close c = record {
+  line = c.token.ensures.line ∙ c.loop-found.invariant.5;
   length = c.token.ensures.length ∙ c.loop-found.invariant.0;
   answer =
       pairs_end c.loop-found.count c.loop-found.pairs (line_length c.loop-found.lexer) (left c.loop-found.lexer) (placed (c.in_ok-found.found, c.in_ok-found.column)) (left c.token.new.lexer) c.in_ok-found.ensures.answer c.in_ok-found.found c.in_ok-found.column c.in-Close.is refl

@@ -12,6 +12,7 @@ invariant-loop-found l =
     × (length l.pairs ≡ 16)
     × All (λ p. ProperPair (pair_of p)) (take l.count l.pairs)
     × (cut_form (16 - l.count) (map pair_of (take l.count l.pairs)) (line_length l.lexer) (left l.lexer) ≡ cut_form 16 [] (line_length l.initial.lexer) (left l.initial.lexer))
+    × (l.lexer.line ≡ l.initial.lexer.line)
 
 abbrev pub decreases-loop-found : goal.decreases-loop-found
 decreases-loop-found l = 16 - l.count
