@@ -1,6 +1,6 @@
 -- What a line says: a form without the unused places of its pairs.
 use Rattle.std.specs.Prelude.{ℕ, ◌^◌, ◌<◌, ◌≤◌, List, map, length, take}
-use Rattle.std.specs.List.{AllByRecursion as All}
+use Rattle.std.specs.List.{AllByRecursion}
 use Rattle.forms.specs.declared.types.MemoryKind.{MemoryKind}
 use Rattle.forms.specs.declared.types.BookKind.{BookKind}
 use Rattle.forms.specs.declared.types.Request.{Request}
@@ -55,4 +55,4 @@ Proper rise = Unit
 Proper (call s q) = (s < 2 ^ 64) × ProperRequest q
 Proper (steps s c) = (s < 2 ^ 64) × (1 ≤ c) × (c < 2 ^ 64)
 Proper (outcome r s n) = (r < 2 ^ 64) × (s < 2 ^ 64) × (n < 2 ^ 64)
-Proper (cut ps) = (length ps ≤ 16) × All ProperPair ps
+Proper (cut ps) = (length ps ≤ 16) × AllByRecursion ProperPair ps

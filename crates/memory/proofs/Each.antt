@@ -1,6 +1,6 @@
 -- A line function with its own number at each line.
 use Rattle.std.proofs.Common.{◌≡◌, ℕ, zero, suc, ◌<◌, List, [], ◌∷◌, map, length, get_or, set, refl, ap, ap₂, arith}
-use Rattle.std.specs.List.{AllByRecursion as All}
+use Rattle.std.specs.List.{AllByRecursion}
 use Rattle.memory.specs.Model.{Line, blank_line, settle, each}
 
 pub length_each : (f : ℕ → Line → Line) (ns : List ℕ) (xs : List Line) → length (each f ns xs) ≡ length xs
@@ -21,11 +21,11 @@ module _ (c : Line → ℕ) where
   abbrev pub Stays : Line → Type 0
   Stays x = settle (c x) x ≡ x
 
-  pub all_stay : (xs : List Line) → All Stays xs → each settle (map c xs) xs ≡ xs
+  pub all_stay : (xs : List Line) → AllByRecursion Stays xs → each settle (map c xs) xs ≡ xs
   all_stay [] s = refl
   all_stay (x ∷ xs) s = ap₂ (λ (y : Line) (ys : List Line). y ∷ ys) s.0 (all_stay xs s.1)
 
-  pub one_settles : (xs : List Line) (l : ℕ) (y : Line) → All Stays xs → each settle (map c (set xs l y)) (set xs l y) ≡ set xs l (settle (c y) y)
+  pub one_settles : (xs : List Line) (l : ℕ) (y : Line) → AllByRecursion Stays xs → each settle (map c (set xs l y)) (set xs l y) ≡ set xs l (settle (c y) y)
   one_settles [] l y s = refl
   one_settles (x ∷ xs) zero y s = ap (λ (ys : List Line). settle (c y) y ∷ ys) (all_stay xs s.1)
   one_settles (x ∷ xs) (suc l) y s = ap₂ (λ (z : Line) (ys : List Line). z ∷ ys) s.0 (one_settles xs l y s.1)

@@ -1,6 +1,6 @@
 -- The lazy memory as a whole: what one record's change makes of it.
 use Rattle.std.proofs.Common.{◌≡◌, ℕ, ◌<◌, ◌≤◌, true, false, ltb, List, [], ◌∷◌, map, length, get_or, set, sym, refl, ap, ◌∙◌, ap₂, arith}
-use Rattle.std.specs.List.{AllByRecursion as All}
+use Rattle.std.specs.List.{AllByRecursion}
 use Rattle.std.proofs.lemmas.List.{length-map, map-set, get_or_past}
 use Rattle.std.proofs.lemmas.Bool.{cond-true, cond-false, lt-ltb, le-ltb, and_from, and_left}
 use Rattle.memory.specs.Model.{Line, blank_line, words_of, settle, each, early, chosen, push_store, pushed, stored, ask, marked, written_back, fence_line}
@@ -20,7 +20,7 @@ stays r = ap (λ n. settle n (line_of r)) (calm r) ∙ settle_none (line_of r)
 asks : (r : LineRec) → ask (line_of r) ≡ settle (early_count (ask (line_of r))) (ask (line_of r))
 asks r = sym (ap (λ n. settle n (ask (line_of r))) (calm r) ∙ settle_none (ask (line_of r)))
 
-all_stay : (rs : List LineRec) → All (Stays early_count) (map line_of rs)
+all_stay : (rs : List LineRec) → AllByRecursion (Stays early_count) (map line_of rs)
 all_stay [] = tt
 all_stay (r ∷ rs) = (stays r, all_stay rs)
 

@@ -1,6 +1,6 @@
 -- The records of the lazy memory: what a settling, a store and a cut make of one.
 use Rattle.std.proofs.Common.{◌≡◌, ℕ, ◌-◌, ◌<◌, ◌≤◌, min, List, ◌++◌, length, take, drop, sym, refl, ap, ◌∙◌, inl, inr, arith, length-drop, length-take}
-use Rattle.std.specs.List.{AllByRecursion as All}
+use Rattle.std.specs.List.{AllByRecursion}
 use Rattle.std.proofs.ByRecursion.{All-take}
 use Rattle.std.proofs.lemmas.List.{take-take, take_all, take-append-le, drop-take}
 use Rattle.std.proofs.lemmas.Bool.{cases_lt, cond-false, le-ltb}
@@ -13,7 +13,7 @@ pub same_line : {ws vs : List ℕ} {ps qs : List Store} {m n : ℕ} → ws ≡ v
     ◌≡◌ {A = Line} (record { settled = ws; pending = ps; asked = m }) (record { settled = vs; pending = qs; asked = n })
 same_line p q r = λ i. record { settled = p i; pending = q i; asked = r i }
 
-pub some_within : (r : LineRec) (n : ℕ) → All (λ s. s.word < 8) (take n r.stores)
+pub some_within : (r : LineRec) (n : ℕ) → AllByRecursion (λ s. s.word < 8) (take n r.stores)
 some_within r n = All-take _ n r.stores (stores_within r)
 
 take_min : {X : Type 0} (m n : ℕ) (xs : List X) → take (min m n) xs ≡ take n (take m xs)

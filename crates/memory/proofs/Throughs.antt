@@ -1,6 +1,6 @@
 -- The memory that writes through: its lines are the words of its caller, eight by eight.
 use Rattle.std.proofs.Common.{◌≡◌, ℕ, zero, suc, ◌+◌, ◌*◌, ◌/◌, ◌<◌, ◌≤◌, true, false, ltb, List, [], ◌∷◌, ◌++◌, map, length, get_or, take, drop, set, replicate, sym, refl, ap, ◌∙◌, subst, ap₂, arith, length-set}
-use Rattle.std.specs.List.{AllByRecursion as All}
+use Rattle.std.specs.List.{AllByRecursion}
 use Rattle.std.proofs.lemmas.List.{drop-drop, drop-set-lt, drop-set-add, take-set-le, get_or_past, set-get_or, take-take, take-replicate, drop-take, drop-replicate, take_more_set, replicate_more}
 use Rattle.std.proofs.lemmas.Bool.{cond-true, cond-false, cond_both, ltb-true, lt-ltb, le-ltb, and_from, and_left}
 use Rattle.memory.specs.Model.{Line, Mem, settled_line, blank_line, blank, words_of, settle, each, chosen, push_store, pushed, stored, ask, marked, written_back, fence_line, cut_line}
@@ -43,7 +43,7 @@ lines_set (suc n) (suc l) w v ws h small =
     ∙ ap (λ (xs : List Line). settled_line (take 8 ws) ∷ xs) (lines_set n l w v (drop 8 ws) (omega arith) small ∙ ap (λ (x : List ℕ). set (lines_of n (drop 8 ws)) l (settled_line (set x w v))) (eight_behind l ws))
 
 -- nothing is pending on a line
-pub stay : (n : ℕ) (ws : List ℕ) → All (Stays all_pending) (lines_of n ws)
+pub stay : (n : ℕ) (ws : List ℕ) → AllByRecursion (Stays all_pending) (lines_of n ws)
 stay zero ws = tt
 stay (suc n) ws = (refl, stay n (drop 8 ws))
 

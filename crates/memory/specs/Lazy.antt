@@ -1,7 +1,7 @@
 -- The lazy memory: what its records stand for, and what it chooses where a memory is free.
 use Rattle.std.specs.Prelude.{◌≡◌, ℕ, ◌<◌, cond, List, [], ◌∷◌, map, length, take, nat_lt}
 use Rattle.std.proofs.Common.{arith}
-use Rattle.std.specs.List.{AllByRecursion as All}
+use Rattle.std.specs.List.{AllByRecursion}
 use Rattle.std.proofs.ByRecursion.{all_from_every, All-take}
 use Rattle.std.proofs.lemmas.List.{length-take-le}
 use Rattle.memory.specs.Model.{Line, Mem, Freedom, WholeLine, chosen}
@@ -14,7 +14,7 @@ abbrev pub lazy_mem : List LineRec → ℕ → Mem
 lazy_mem rs n = record { lines = map line_of rs; fences = n }
 
 -- every store of a record is on one of the eight words
-pub stores_within : (r : LineRec) → All (λ s. s.word < 8) r.stores
+pub stores_within : (r : LineRec) → AllByRecursion (λ s. s.word < 8) r.stores
 stores_within r = all_from_every _ r.stores (λ k d low high. r.within k d low (omega (arith, r.places)))
 
 pub pending_length : (r : LineRec) → length (take r.count r.stores) ≡ r.count
@@ -27,7 +27,7 @@ line_whole r = record {
   asked_pending = let e = pending_length r in let a = r.asked_for in omega arith;
 }
 
-pub lazy_whole : (rs : List LineRec) → All WholeLine (map line_of rs)
+pub lazy_whole : (rs : List LineRec) → AllByRecursion WholeLine (map line_of rs)
 lazy_whole [] = tt
 lazy_whole (r ∷ rs) = (line_whole r, lazy_whole rs)
 

@@ -1,7 +1,7 @@
 -- What a memory means: for each line its settled words, the stores on it that have not settled, oldest first, and how
 -- many of these a write-back has asked for; and a count of fences.
 use Rattle.std.specs.Prelude.{◌≡◌, ℕ, ◌+◌, ◌-◌, ◌%◌, ◌^◌, ◌<◌, ◌≤◌, min, max, Bool, cond, ◌&&◌, List, [], ◌∷◌, ◌++◌, map, length, take, drop, replicate, nat_lt, slice_index, slice_index_or, slice_set}
-use Rattle.std.specs.List.{AllByRecursion as All}
+use Rattle.std.specs.List.{AllByRecursion}
 use Rattle.memory.specs.declared.types.Store.{Store}
 
 pub record Line : Type 0 where
@@ -110,8 +110,8 @@ pub record Freedom : Type 1 where
 -- what every memory shows of its lines: eight words, stores on these alone, no more asked for than is pending
 pub record WholeLine (x : Line) : Type 0 where
   pub eight_words : length x.settled ≡ 8
-  pub stores_within : All (λ s. s.word < 8) x.pending
+  pub stores_within : AllByRecursion (λ s. s.word < 8) x.pending
   pub asked_pending : x.asked ≤ length x.pending
 
 abbrev pub Whole : Mem → Type 0
-Whole m = All WholeLine m.lines
+Whole m = AllByRecursion WholeLine m.lines

@@ -1,7 +1,7 @@
 -- The memory that writes through: the words of its caller, eight a line, each store settled at once.
 use Rattle.std.specs.Prelude.{◌≡◌, ℕ, zero, suc, ◌*◌, ◌/◌, ◌≤◌, List, [], ◌∷◌, length, take, drop}
 use Rattle.std.proofs.Common.{arith}
-use Rattle.std.specs.List.{AllByRecursion as All}
+use Rattle.std.specs.List.{AllByRecursion}
 use Rattle.std.proofs.lemmas.List.{length-take-le, length-drop}
 use Rattle.memory.specs.Model.{Line, Mem, settled_line, Freedom, WholeLine, chosen}
 
@@ -28,12 +28,12 @@ all_pending x = length x.pending
 abbrev pub through_freedom : Freedom
 through_freedom = record { early_by = λ m ns. ns ≡ chosen all_pending m; kept_by = λ m bytes ns. ns ≡ [] }
 
-lines_whole : (n : ℕ) (ws : List ℕ) → 8 * n ≤ length ws → All WholeLine (lines_of n ws)
+lines_whole : (n : ℕ) (ws : List ℕ) → 8 * n ≤ length ws → AllByRecursion WholeLine (lines_of n ws)
 lines_whole zero ws h = tt
 lines_whole (suc n) ws h = (
   record { eight_words = length-take-le 8 ws (omega arith); stores_within = tt; asked_pending = omega arith },
   lines_whole n (drop 8 ws) (let e = length-drop 8 ws in omega arith),
 )
 
-pub through_whole : (ws : List ℕ) → All WholeLine (whole_lines ws)
+pub through_whole : (ws : List ℕ) → AllByRecursion WholeLine (whole_lines ws)
 through_whole ws = lines_whole (length ws / 8) ws (omega arith)

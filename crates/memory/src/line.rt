@@ -1,5 +1,5 @@
 ghost use Rattle.std.specs.Prelude.{◌≡◌, ◌-◌, ◌<◌, ◌≤◌, take, slice_index};
-ghost use Rattle.std.specs.List.{AllByRecursion as All};
+ghost use Rattle.std.specs.List.{AllByRecursion};
 ghost use Rattle.memory.specs.Model.{settled_line, words_of, written, settle, push_store, ask, fence_line, cut_line};
 ghost use Rattle.memory.specs.Lazy.{line_of, early_count};
 
@@ -9,7 +9,7 @@ const PLACES: usize = 16;
 
 // The words after stores made on them, the first one first.
 fn made(mut words: [u64; 8], stores: &[Store]) -> [u64; 8]
-    requires { All (λ s. s.word < 8) stores.now }
+    requires { AllByRecursion (λ s. s.word < 8) stores.now }
     ensures { result ≡ written words stores.now }
 {
     for s in stores {

@@ -3,7 +3,7 @@ use Rattle.std.proofs.Common.{◌≡◌, ℕ, zero, suc, pred, ◌≤◌, true, 
 use Rattle.std.proofs.lemmas.List.{length-take}
 use Rattle.std.proofs.ByRecursion.{All-from_get_or, All-map}
 use Rattle.std.proofs.lemmas.Bool.{leb-true, and_parts, cond_both}
-use Rattle.std.specs.List.{AllByRecursion as All}
+use Rattle.std.specs.List.{AllByRecursion}
 use Rattle.memory.specs.Model.{Mem}
 use Rattle.model.specs.Journal.{station_count, max_lines, word, within, begins, stands, Entry, entries, log_length, log_of, log_entries, stations}
 use Rattle.model.specs.Machine.{idle_station}
@@ -44,12 +44,12 @@ call_bounded num s o g (calls.Query op p) a b h = query_bounded o s p a b h
 
 -- the stations of a sound run, and of a shut one
 pub stations_bounded : {num : ℕ} {o : List Node} {xs : List Station} {us : List Update} {ws : List (Option Waiting)} → Sound num o xs us ws →
-    All (λ x. bounded_call x.call) xs
+    AllByRecursion (λ x. bounded_call x.call) xs
 stations_bounded {num} {o} {xs} z = All-from_get_or (λ x. bounded_call x.call) xs (idle_station 0)
     (λ i h. call_bounded num (suc i) o (get_or xs i (idle_station 0)).given (get_or xs i (idle_station 0)).call (omega arith) (omega (arith, z.many))
     (z.stands (suc i) (omega arith) (omega (arith, z.many))))
 
-pub idle_bounded : (n : ℕ) → All (λ x. bounded_call x.call) (replicate n (idle_station 0))
+pub idle_bounded : (n : ℕ) → AllByRecursion (λ x. bounded_call x.call) (replicate n (idle_station 0))
 idle_bounded zero = tt
 idle_bounded (suc n) = (tt, idle_bounded n)
 
@@ -59,11 +59,11 @@ idle_bounded (suc n) = (tt, idle_bounded n)
 abbrev Few : Entry → Type 0
 Few e = (1 ≤ length e.lines) × (length e.lines ≤ max_lines)
 
-entries_bounded : (owner skip : ℕ) (ls : List (List ℕ)) → All Few (entries owner skip ls)
+entries_bounded : (owner skip : ℕ) (ls : List (List ℕ)) → AllByRecursion Few (entries owner skip ls)
 entries_bounded owner zero [] = tt
 entries_bounded owner (suc skip) [] = tt
 entries_bounded owner (suc skip) (l ∷ ls) = entries_bounded owner skip ls
-entries_bounded owner zero (l ∷ ls) = cond_both (stands owner (l ∷ ls)) _ [] (All Few) (λ e. (few e, entries_bounded owner (pred (word l 1)) ls))
+entries_bounded owner zero (l ∷ ls) = cond_both (stands owner (l ∷ ls)) _ [] (AllByRecursion Few) (λ e. (few e, entries_bounded owner (pred (word l 1)) ls))
     (λ e. tt)
   where
     few : stands owner (l ∷ ls) ≡ true → (1 ≤ length (take (word l 1) (l ∷ ls))) × (length (take (word l 1) (l ∷ ls)) ≤ max_lines)
@@ -76,6 +76,6 @@ entries_bounded owner zero (l ∷ ls) = cond_both (stands owner (l ∷ ls)) _ []
         let long = length-take (word l 1) (l ∷ ls) in (omega arith, omega arith)
 
 pub memory_bounded : (m : Mem) → bounded_entries m
-memory_bounded m = All-map (All Few) (log_entries m) stations
-    (All-from_get_or (λ s. All Few (log_entries m s)) stations 0
+memory_bounded m = All-map (AllByRecursion Few) (log_entries m) stations
+    (All-from_get_or (λ s. AllByRecursion Few (log_entries m s)) stations 0
     (λ i h. entries_bounded (get_or stations i 0) 0 (log_of m (log_length m) (get_or stations i 0))))

@@ -1,6 +1,6 @@
 -- How the entries cover the updates while the updates grow, a log changes, or a cut comes.
 use Rattle.std.proofs.Common.{◌≡◌, ℕ, zero, suc, pred, ◌+◌, ◌-◌, ◌<◌, ◌≤◌, max, true, List, [], ◌∷◌, length, get_or, take, set, replicate, Some, None, Option, sym, refl, ap, ◌∙◌, subst, inl, inr, arith}
-use Rattle.std.specs.List.{AllByRecursion as All}
+use Rattle.std.specs.List.{AllByRecursion}
 use Rattle.std.proofs.ByRecursion.{All-push, All-set, All-weaker}
 use Rattle.std.proofs.lemmas.List.{length-append, length-take, get_or-take}
 use Rattle.std.proofs.lemmas.Bool.{cases_lt}
@@ -157,7 +157,7 @@ covers_blank us n =
 place_fits : (e m mark t : ℕ) (l : List ℕ) → line_fits e m mark t l ≡ true → word l 0 ≤ e
 place_fits e m mark t l h = let k : word l 0 ≡ e - t = grind (arith, nat_tests) in omega arith
 
-places_fit : (n e m mark t : ℕ) (ls : List (List ℕ)) → length ls ≡ n → lines_fit n e m mark t ls ≡ true → All (λ l. word l 0 ≤ e) ls
+places_fit : (n e m mark t : ℕ) (ls : List (List ℕ)) → length ls ≡ n → lines_fit n e m mark t ls ≡ true → AllByRecursion (λ l. word l 0 ≤ e) ls
 places_fit n e m mark t [] k h = tt
 places_fit zero e m mark t (l ∷ ls) k h = absurd (omega arith)
 places_fit (suc n) e m mark t (l ∷ ls) k h =
@@ -181,7 +181,7 @@ parts_within (Parts.more {owner} {p} log rest k l e others) =
 abbrev UpTo : ℕ → Entry → Type 0
 UpTo n f = (f.place ≤ n) × Within f
 
-up_to_top : (fs : List Entry) (n k : ℕ) → top n fs ≤ k → All Within fs → All (UpTo k) fs
+up_to_top : (fs : List Entry) (n k : ℕ) → top n fs ≤ k → AllByRecursion Within fs → AllByRecursion (UpTo k) fs
 up_to_top [] n k h a = tt
 up_to_top (f ∷ fs) n k h a = ((let x = top_grows fs (max n f.place) in omega arith, a.0), up_to_top fs (max n f.place) k h a.1)
 
@@ -194,7 +194,7 @@ agrees_take us k l a h =
     let n = length-take k us in
     record { low = a.low; high = omega (arith, a.high); told = a.told ∙ sym (get_or-take k us (pred (word l 0)) no_update (omega (arith, a.low))) }
 
-all_both : {X : Type 0} (P Q T : X → Type 0) → ((x : X) → P x → Q x → T x) → (xs : List X) → All P xs → All Q xs → All T xs
+all_both : {X : Type 0} (P Q T : X → Type 0) → ((x : X) → P x → Q x → T x) → (xs : List X) → AllByRecursion P xs → AllByRecursion Q xs → AllByRecursion T xs
 all_both P Q T g [] a b = tt
 all_both P Q T g (x ∷ xs) a b = (g x a.0 b.0, all_both P Q T g xs a.1 b.1)
 

@@ -1,6 +1,6 @@
 -- What the entries of all logs tell together: a first part of the updates, and no question at a start.
 use Rattle.std.proofs.Common.{◌≡◌, ℕ, zero, suc, pred, ◌+◌, ◌-◌, ◌<◌, ◌≤◌, max, true, eqb, List, [], ◌∷◌, ◌++◌, length, get_or, take, drop, Some, None, Option, sym, refl, ap, ◌∙◌, subst, ap₂, inl, inr, arith}
-use Rattle.std.specs.List.{AllByRecursion as All}
+use Rattle.std.specs.List.{AllByRecursion}
 use Rattle.std.proofs.ByRecursion.{All-append, All-push, All-weaker}
 use Rattle.std.proofs.lemmas.List.{length-append, drop_more}
 use Rattle.std.proofs.lemmas.Bool.{cases_Bool, cases_lt, eqb-true, eq-eqb, and_from, cond-true, cond_both}
@@ -17,10 +17,10 @@ use Rattle.model.proofs.Memory.{Memory, memory_cut}
 
 -- what holds of each entry of each log
 abbrev pub AllEntries : (Entry → Type 0) → List (List Entry) → Type 0
-AllEntries P = All (All P)
+AllEntries P = AllByRecursion (AllByRecursion P)
 
 pub all_entries_weaker : (P Q : Entry → Type 0) → ((f : Entry) → P f → Q f) → (fss : List (List Entry)) → AllEntries P fss → AllEntries Q fss
-all_entries_weaker P Q g fss a = All-weaker (All P) (All Q) (All-weaker P Q g) fss a
+all_entries_weaker P Q g fss a = All-weaker (AllByRecursion P) (AllByRecursion Q) (All-weaker P Q g) fss a
 
 -- Lines that hold a place
 
@@ -31,23 +31,23 @@ pub record Agrees (us : List Update) (l : List ℕ) : Type 0 where
   pub told : update_in l ≡ get_or us (pred (word l 0)) no_update
 
 abbrev pub EntryAgrees : List Update → Entry → Type 0
-EntryAgrees us f = All (Agrees us) f.lines
+EntryAgrees us f = AllByRecursion (Agrees us) f.lines
 
 -- a line that holds the place i
 abbrev Held : List Update → ℕ → List ℕ → Type 0
 Held us i l = Agrees us l × (word l 0 ≡ i)
 
-held_lines : (us : List Update) (i : ℕ) (ls : List (List ℕ)) → All (Agrees us) ls → All (Held us i) (holding_lines i ls)
+held_lines : (us : List Update) (i : ℕ) (ls : List (List ℕ)) → AllByRecursion (Agrees us) ls → AllByRecursion (Held us i) (holding_lines i ls)
 held_lines us i [] a = tt
 held_lines us i (l ∷ ls) a =
     let rest = held_lines us i ls a.1 in
-    cond_both (eqb (word l 0) i) _ _ (All (Held us i)) (λ h. ((a.0, eqb-true (word l 0) i h), rest)) (λ h. rest)
+    cond_both (eqb (word l 0) i) _ _ (AllByRecursion (Held us i)) (λ h. ((a.0, eqb-true (word l 0) i h), rest)) (λ h. rest)
 
-held_entries : (us : List Update) (i : ℕ) (fs : List Entry) → All (EntryAgrees us) fs → All (Held us i) (holding_entries i fs)
+held_entries : (us : List Update) (i : ℕ) (fs : List Entry) → AllByRecursion (EntryAgrees us) fs → AllByRecursion (Held us i) (holding_entries i fs)
 held_entries us i [] a = tt
 held_entries us i (f ∷ fs) a = All-append _ _ _ (held_lines us i f.lines a.0) (held_entries us i fs a.1)
 
-held : (us : List Update) (i : ℕ) (fss : List (List Entry)) → AllEntries (EntryAgrees us) fss → All (Held us i) (holding i fss)
+held : (us : List Update) (i : ℕ) (fss : List (List Entry)) → AllEntries (EntryAgrees us) fss → AllByRecursion (Held us i) (holding i fss)
 held us i [] a = tt
 held us i (fs ∷ fss) a = All-append _ _ _ (held_entries us i fs a.0) (held us i fss a.1)
 
@@ -57,7 +57,7 @@ held us i (fs ∷ fss) a = All-append _ _ _ (held_entries us i fs a.0) (held us 
 abbrev pub Reach : List (List Entry) → ℕ → Type 0
 Reach fss n = (i : ℕ) → 1 ≤ i → i ≤ n → 1 ≤ length (holding i fss)
 
-found_at : (us : List Update) (i : ℕ) (ls : List (List ℕ)) → 1 ≤ length ls → All (Held us i) ls →
+found_at : (us : List Update) (i : ℕ) (ls : List (List ℕ)) → 1 ≤ length ls → AllByRecursion (Held us i) ls →
     (update_found ls ≡ get_or us (pred i) no_update) × (i ≤ length us)
 found_at us i [] h a = absurd (omega arith)
 found_at us i (l ∷ ls) h a = let w = a.0.1 in let t = a.0.0.told in let k = a.0.0.high in (rw (← w) t, omega arith)
@@ -81,7 +81,7 @@ pub tops_reach : (G : List (List Entry)) (fss : List (List Entry)) (n : ℕ) →
 tops_reach G [] n a r = r
 tops_reach G (fs ∷ fss) n a r = tops_reach G fss (top n fs) a.1 (one fs n a.0 r)
   where
-    one : (fs : List Entry) (n : ℕ) → All (λ f. Reach G f.place) fs → Reach G n → Reach G (top n fs)
+    one : (fs : List Entry) (n : ℕ) → AllByRecursion (λ f. Reach G f.place) fs → Reach G n → Reach G (top n fs)
     one [] n a r = r
     one (f ∷ fs) n a r =
         one fs (max n f.place) a.1 (λ i low high. elim (cases_lt n i) [ inl h ↦ a.0 i low (omega arith) | inr h ↦ r i low h ])
@@ -112,7 +112,7 @@ BegunOwns us G (Some f) = Owns us G f
 
 -- each entry that is being written is such a one
 abbrev pub AllBegun : List Update → List (List Entry) → List Part → Type 0
-AllBegun us G = All (λ p. BegunOwns us G p.begun)
+AllBegun us G = AllByRecursion (λ p. BegunOwns us G p.begun)
 
 -- the entries that stand, and those that are being written, tell the updates us without a gap
 pub record Covers (us : List Update) (ps : List Part) : Type 0 where
@@ -178,12 +178,12 @@ cut_found us x c ns =
 
 -- no line of the entry holds a place above the entry's
 abbrev pub Within : Entry → Type 0
-Within f = All (λ l. word l 0 ≤ f.place) f.lines
+Within f = AllByRecursion (λ l. word l 0 ≤ f.place) f.lines
 
 held_within : (i : ℕ) (f : Entry) → Within f → 1 ≤ length (holding_lines i f.lines) → i ≤ f.place
 held_within i f a h = by f.lines a h
   where
-    by : (ls : List (List ℕ)) → All (λ l. word l 0 ≤ f.place) ls → 1 ≤ length (holding_lines i ls) → i ≤ f.place
+    by : (ls : List (List ℕ)) → AllByRecursion (λ l. word l 0 ≤ f.place) ls → 1 ≤ length (holding_lines i ls) → i ≤ f.place
     by [] b h = absurd (omega arith)
     by (l ∷ ls) b h = elim (cases_Bool (eqb (word l 0) i)) [
       | inl x ↦ (let y = eqb-true (word l 0) i x in let z = b.0 in omega arith)
@@ -198,7 +198,7 @@ pub tops_grows : (fss : List (List Entry)) (n : ℕ) → n ≤ tops n fss
 tops_grows [] n = omega arith
 tops_grows (fs ∷ fss) n = let h = tops_grows fss (top n fs) in let k = top_grows fs n in omega arith
 
-top_above : (i : ℕ) (fs : List Entry) (n : ℕ) → All Within fs → 1 ≤ length (holding_entries i fs) → i ≤ top n fs
+top_above : (i : ℕ) (fs : List Entry) (n : ℕ) → AllByRecursion Within fs → 1 ≤ length (holding_entries i fs) → i ≤ top n fs
 top_above i [] n a h = absurd (omega arith)
 top_above i (f ∷ fs) n a h = elim (cases_lt 0 (length (holding_lines i f.lines))) [
   | inl x ↦ (let y = held_within i f a.0 x in let z = top_grows fs (max n f.place) in omega arith)
@@ -223,7 +223,7 @@ same_told us i a b p q =
     (and_from _ _ (eq-eqb _ _ (ap (λ (u : Update). u.op.code) e))
     (and_from _ _ (eq-eqb _ _ (ap (λ (u : Update). u.op.argument) e)) (eq-eqb _ _ (ap (λ (u : Update). u.run) e)))))
 
-all_agree : (us : List Update) (i : ℕ) (l : List ℕ) (ls : List (List ℕ)) → Held us i l → All (Held us i) ls → agree l ls ≡ true
+all_agree : (us : List Update) (i : ℕ) (l : List ℕ) (ls : List (List ℕ)) → Held us i l → AllByRecursion (Held us i) ls → agree l ls ≡ true
 all_agree us i l [] h a = refl
 all_agree us i l (k ∷ ls) h a = and_from _ _ (same_told us i l k h a.0) (all_agree us i l ls h a.1)
 
@@ -232,7 +232,7 @@ abbrev AllUpdates : {S : Type 0} → Rules S → List Update → Type 0
 AllUpdates R us = (i : ℕ) → i < length us → is_update (R.sort (get_or us i no_update).op) ≡ true
 
 no_question : {S : Type 0} (R : Rules S) (us : List Update) → AllUpdates R us → (i : ℕ) (ls : List (List ℕ)) → 1 ≤ length ls →
-    All (Held us i) ls → place_question R i ls ≡ None
+    AllByRecursion (Held us i) ls → place_question R i ls ≡ None
 no_question R us u i [] h a = absurd (omega arith)
 no_question R us u i (l ∷ ls) h a =
     let g = a.0.0 in

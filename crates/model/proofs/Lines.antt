@@ -1,6 +1,6 @@
 -- The lines of a log while an entry is written on them.
 use Rattle.std.proofs.Common.{◌≡◌, ℕ, zero, suc, pred, ◌+◌, ◌-◌, ◌*◌, ◌<◌, ◌≤◌, cond, eqb, ltb, List, [], ◌∷◌, ◌++◌, map, length, get_or, take, drop, set, sym, refl, ap, ◌∙◌, subst, ap₂, inl, inr, arith, length-drop}
-use Rattle.std.specs.List.{AllByRecursion as All}
+use Rattle.std.specs.List.{AllByRecursion}
 use Rattle.std.proofs.lemmas.List.{length-take, take_all, take-take, drop_all}
 use Rattle.std.proofs.lemmas.Bool.{cases_lt}
 use Rattle.memory.specs.Model.{Line, written, each, settle, cut_line, fence_line, push_store, ask}
@@ -17,11 +17,11 @@ settled_lines xs = map (λ (x : Line). x.settled) xs
 
 -- nothing is pending
 abbrev pub Quiet : List Line → Type 0
-Quiet = All (λ x. x.pending ≡ [])
+Quiet = AllByRecursion (λ x. x.pending ≡ [])
 
 -- eight words a line
 abbrev pub Sized : List (List ℕ) → Type 0
-Sized = All (λ l. length l ≡ 8)
+Sized = AllByRecursion (λ l. length l ≡ 8)
 
 -- a line with the words o, of whose ten stages towards w the first ones are made: nine stores and a write-back
 pub record Staged (o w : List ℕ) (stage : ℕ) (x : Line) : Type 0 where
@@ -117,7 +117,7 @@ stage_line o w x (suc (suc (suc (suc (suc (suc (suc (suc zero)))))))) h m = reco
 stage_line o w x (suc (suc (suc (suc (suc (suc (suc (suc (suc zero))))))))) h m = record { made = stored_ask m; asked = λ g. refl }
 stage_line o w x (suc (suc (suc (suc (suc (suc (suc (suc (suc (suc j)))))))))) h m = absurd (omega arith)
 
--- All lines
+-- AllByRecursion lines
 
 -- the writing begins
 pub writing_none : (ws : List (List ℕ)) (xs : List Line) → Quiet xs → length ws ≤ length xs → Writing 0 ws (settled_lines xs) xs

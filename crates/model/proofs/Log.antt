@@ -1,6 +1,6 @@
 -- A log, at rest or while an entry is written to it: what settling, fences and cuts leave of it.
 use Rattle.std.proofs.Common.{◌≡◌, ℕ, zero, suc, ◌+◌, ◌-◌, ◌*◌, ◌<◌, ◌≤◌, true, false, ◌⊎◌, List, [], ◌∷◌, ◌++◌, length, get_or, take, drop, set, replicate, sym, refl, ap, ◌∙◌, subst, ap₂, inl, inr, append_assoc, arith}
-use Rattle.std.specs.List.{AllByRecursion as All}
+use Rattle.std.specs.List.{AllByRecursion}
 use Rattle.std.proofs.ByRecursion.{All-append, All-push, All-take, All-drop, All-map}
 use Rattle.std.proofs.lemmas.List.{append-nil, length-append, take-append-drop, take-map, drop-map, take_at, drop_at, drop_all, length-map, map-append, get_or-append-add, set-append_right}
 use Rattle.std.proofs.lemmas.Bool.{cases_Bool}
@@ -19,7 +19,7 @@ pub record Logged (owner r : ℕ) (fs : List Entry) (ws : List (List ℕ)) (stag
   pub is : log ≡ used ++ free
   pub quiet : Quiet used
   pub holds : settled_lines used ≡ lines_of fs
-  pub stood : All (Stood owner) fs
+  pub stood : AllByRecursion (Stood owner) fs
   pub sized : Sized olds
   pub fresh : Fresh owner r olds
   pub writing : Writing stage ws olds free
@@ -167,7 +167,7 @@ logged_later {owner} {r} k = record {
 
 -- the entry f stands on the first free lines
 one_more : (owner r : ℕ) (fs : List Entry) (f : Entry) (used free : List Line) (rest : List (List ℕ)) → Quiet used → Quiet free →
-    settled_lines used ≡ lines_of fs → All (Stood owner) fs → Stood owner f → settled_lines free ≡ f.lines ++ rest → Sized rest →
+    settled_lines used ≡ lines_of fs → AllByRecursion (Stood owner) fs → Stood owner f → settled_lines free ≡ f.lines ++ rest → Sized rest →
     Fresh owner r rest → Logged owner r (fs ++ (f ∷ [])) [] 0 (used ++ free)
 one_more owner r fs f used free rest quiet-used quiet-free h a s e z fresh =
     let n = length f.lines in
@@ -250,7 +250,7 @@ logged_cut {owner} {r} {fs} {f} {stage} {log} k w ns = elim (cases_Bool (stands 
 
 -- A blank log
 
-pub all_same : {X : Type 0} (P : X → Type 0) (n : ℕ) (x : X) → P x → All P (replicate n x)
+pub all_same : {X : Type 0} (P : X → Type 0) (n : ℕ) (x : X) → P x → AllByRecursion P (replicate n x)
 all_same P zero x h = tt
 all_same P (suc n) x h = (h, all_same P n x h)
 
@@ -268,8 +268,8 @@ logged_blank owner L = record {
   writing = behind (all_same _ L blank_line refl) refl;
 }
   where
-    blank : (P : List ℕ → Type 0) → P (replicate 8 0) → All P (settled_lines (replicate L blank_line))
+    blank : (P : List ℕ → Type 0) → P (replicate 8 0) → AllByRecursion P (settled_lines (replicate L blank_line))
     blank P h = All-map P (λ (x : Line). x.settled) (replicate L blank_line) (all_same _ L blank_line h)
 
-    not_first : All NotFirst (settled_lines (replicate L blank_line))
+    not_first : AllByRecursion NotFirst (settled_lines (replicate L blank_line))
     not_first = blank NotFirst (inl refl)

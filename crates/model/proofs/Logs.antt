@@ -1,6 +1,6 @@
 -- Logs one behind the other: what is done to their lines, and what reading finds.
 use Rattle.std.proofs.Common.{◌≡◌, ℕ, zero, suc, ◌+◌, ◌*◌, ◌<◌, ◌≤◌, List, [], ◌∷◌, ◌++◌, map, length, get_or, take, drop, set, replicate, Some, None, Option, sym, refl, ap, ◌∙◌, subst, ap₂, inl, inr, arith}
-use Rattle.std.specs.List.{AllByRecursion as All}
+use Rattle.std.specs.List.{AllByRecursion}
 use Rattle.std.proofs.ByRecursion.{All-append}
 use Rattle.std.proofs.lemmas.List.{length-append, length-replicate, replicate-append-replicate, take_at, drop_at, drop-drop, length-map, set-append_left, get_or_append_left, length-set, map-append}
 use Rattle.memory.specs.Model.{Mem, Line, blank_line, each, settle, cut_line, fence_line, words_of}
@@ -61,7 +61,7 @@ stands_of (p ∷ ps) = p.standing ∷ stands_of ps
 
 -- nothing is being written
 abbrev pub AllRest : List Part → Type 0
-AllRest = All (λ p. p.begun ≡ None)
+AllRest = AllByRecursion (λ p. p.begun ≡ None)
 
 pub parts_length : {r L owner : ℕ} {ps : List Part} {xs : List Line} → Parts r L owner ps xs → length xs ≡ length ps * L
 parts_length {L} none = omega arith

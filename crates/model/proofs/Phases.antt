@@ -1,6 +1,6 @@
 -- The moves of an update, phase by phase: what each does to order, logs and memory.
 use Rattle.std.proofs.Common.{◌≡◌, ℕ, zero, suc, pred, ◌+◌, ◌-◌, ◌*◌, ◌<◌, ◌≤◌, true, false, List, [], ◌∷◌, ◌++◌, length, get_or, set, Some, None, Option, sym, refl, ap, ◌∙◌, subst, subst₂, inl, inr, arith}
-use Rattle.std.specs.List.{AllByRecursion as All}
+use Rattle.std.specs.List.{AllByRecursion}
 use Rattle.std.proofs.lemmas.List.{length-set, length-map, length_push, get_or_append_left, get_or_push, get_or-set_same, get_or-set_other}
 use Rattle.std.proofs.lemmas.Bool.{cases_eq, cases_lt, both_ways}
 use Rattle.memory.specs.Model.{fenced}
@@ -144,7 +144,7 @@ module _ {S : Type 0} (R : Rules S) (h : List Moment) (r : Machine S) (s : ℕ) 
     owns : Owns (updates_of r.order) (stands_of z.ps) (entry (q + u) u)
     owns = record {
       agrees =
-          subst (λ (ls : List (List ℕ)). All (Agrees (updates_of r.order)) ls) (sym same)
+          subst (λ (ls : List (List ℕ)). AllByRecursion (Agrees (updates_of r.order)) ls) (sym same)
           (target_agrees (updates_of r.order) r.number (q + u) u inside own_run 0 u (omega arith) (omega arith));
       before = λ i a b. flag_reach q (omega (arith, hold.high)) f i a (omega (arith, lines_count (q + u) u));
       own = λ i a b. subst (λ (ls : List (List ℕ)). 1 ≤ length (holding_lines i ls)) (sym same)

@@ -1,6 +1,6 @@
 -- What reading finds in a list of lines: entries that stand, and what is left where the writing of an entry broke off.
 use Rattle.std.proofs.Common.{◌≡◌, ℕ, zero, suc, ◌+◌, ◌<◌, ◌≤◌, true, false, ◌⊎◌, List, [], ◌∷◌, ◌++◌, length, get_or, drop, refl, ap, ◌∙◌, subst, subst₂, inl, inr, append_assoc, arith}
-use Rattle.std.specs.List.{AllByRecursion as All}
+use Rattle.std.specs.List.{AllByRecursion}
 use Rattle.std.proofs.ByRecursion.{All-drop, All-weaker}
 use Rattle.std.proofs.lemmas.List.{take_at}
 use Rattle.std.proofs.lemmas.Bool.{and_parts, and_from, cond-true, cond-false, both_ways, cases_Bool}
@@ -75,7 +75,7 @@ entries_first owner l ls more long h =
     ∙ rw (long, take_at ls more (length ls) refl, skipped owner ls more) refl
 
 -- the lines of entries that stand are read as these entries, where nothing stands behind them
-pub entries_are : (owner : ℕ) (fs : List Entry) (more : List (List ℕ)) → All (Stood owner) fs → stands owner more ≡ false →
+pub entries_are : (owner : ℕ) (fs : List Entry) (more : List (List ℕ)) → AllByRecursion (Stood owner) fs → stands owner more ≡ false →
     entries owner 0 (lines_of fs ++ more) ≡ fs
 entries_are owner [] more hs h = entries_none owner more h
 entries_are owner (f ∷ fs) more hs h =
@@ -106,7 +106,7 @@ abbrev pub MarkBelow : ℕ → List ℕ → Type 0
 MarkBelow r l = word l 7 < r
 
 -- lines with one mark below r are old ones
-fit_back : {ws os ns : List (List ℕ)} → Mixed ws os ns → (r : ℕ) → All (MarkIs r) ws → (n e m mark t : ℕ) → 1 ≤ mark → mark < r →
+fit_back : {ws os ns : List (List ℕ)} → Mixed ws os ns → (r : ℕ) → AllByRecursion (MarkIs r) ws → (n e m mark t : ℕ) → 1 ≤ mark → mark < r →
     lines_fit n e m mark t ns ≡ true → lines_fit n e m mark t os ≡ true
 fit_back behind r a n e m mark t low high h = h
 fit_back (next b x) r a zero e m mark t low high h = refl
@@ -120,7 +120,7 @@ fit_back (next {o} {w} {n = l} {os} {ws} {ns} b x) r a (suc n) e m mark t low hi
     line (whole q) f = let z = mark_of e m mark t l f in let y : word l 7 ≡ r = rw q a.0 in absurd (omega arith)
 
 -- where all wanted lines have the mark r, they are whole
-fit_whole : {ws os ns : List (List ℕ)} → Mixed ws os ns → (r : ℕ) → 1 ≤ r → All (MarkBelow r) os → (e m t : ℕ) →
+fit_whole : {ws os ns : List (List ℕ)} → Mixed ws os ns → (r : ℕ) → 1 ≤ r → AllByRecursion (MarkBelow r) os → (e m t : ℕ) →
     lines_fit (length ws) e m r t ns ≡ true → ns ≡ ws ++ drop (length ws) os
 fit_whole behind r low a e m t h = refl
 fit_whole (next {o} {w} {n} {os} {ws} {ns} b x) r low a e m t h =
@@ -151,18 +151,18 @@ not_first_stands owner l ls b = elim (cases_Bool (stands owner (l ∷ ls))) [ in
         let two = number_of (word l 0) (word l 1) (word l 7) 0 l (first_fits (word l 1) (lines_begun owner l p.0) p.1) in
         elim b [ inl z ↦ omega arith | inr z ↦ z two ]
 
-pub not_first_closed : (owner : ℕ) (ls : List (List ℕ)) → All NotFirst ls → stands owner ls ≡ false
+pub not_first_closed : (owner : ℕ) (ls : List (List ℕ)) → AllByRecursion NotFirst ls → stands owner ls ≡ false
 not_first_closed owner [] a = refl
 not_first_closed owner (l ∷ ls) a = not_first_stands owner l ls a.0
 
 -- the free lines of a log: no entry stands there, none can begin behind their first line, and the marks are below r
 pub record Fresh (owner r : ℕ) (ls : List (List ℕ)) : Type 0 where
   pub closed : stands owner ls ≡ false
-  pub below : All (MarkBelow r) ls
-  pub tail : All NotFirst (drop 1 ls)
+  pub below : AllByRecursion (MarkBelow r) ls
+  pub tail : AllByRecursion NotFirst (drop 1 ls)
 
 -- where an entry stands on a mixture, all wanted lines are whole
-pub mixture : {ws os ns : List (List ℕ)} → Mixed ws os ns → (owner r : ℕ) → Fresh owner r os → All (MarkIs r) ws →
+pub mixture : {ws os ns : List (List ℕ)} → Mixed ws os ns → (owner r : ℕ) → Fresh owner r os → AllByRecursion (MarkIs r) ws →
     word (get_or ws 0 []) 1 ≡ length ws → 1 ≤ r → stands owner ns ≡ true → ns ≡ ws ++ drop (length ws) os
 mixture behind owner r f a k low h = refl
 mixture (next {o} {w} {n} {os} {ws} {ns} b x) owner r f a k low h = by b
@@ -203,7 +203,7 @@ fresh_later owner r ls f = record {
   tail = f.tail;
 }
 
-mixed_below : {ws os ns : List (List ℕ)} → Mixed ws os ns → (r : ℕ) → All (MarkIs r) ws → All (MarkBelow r) os → All (MarkBelow (r + 1)) ns
+mixed_below : {ws os ns : List (List ℕ)} → Mixed ws os ns → (r : ℕ) → AllByRecursion (MarkIs r) ws → AllByRecursion (MarkBelow r) os → AllByRecursion (MarkBelow (r + 1)) ns
 mixed_below (behind {ls}) r a b = All-weaker (MarkBelow r) (MarkBelow (r + 1)) (λ l h. omega arith) ls b
 mixed_below (next {o} {w} {n} {os} {ws} {ns} x xs) r a b = (line x, mixed_below xs r a.1 b.1)
   where
@@ -212,7 +212,7 @@ mixed_below (next {o} {w} {n} {os} {ws} {ns} x xs) r a b = (line x, mixed_below 
     line (torn q) = omega arith
     line (whole q) = rw q (omega arith)
 
-mixed_not_first : {ws os ns : List (List ℕ)} → Mixed ws os ns → All NotFirst ws → All NotFirst os → All NotFirst ns
+mixed_not_first : {ws os ns : List (List ℕ)} → Mixed ws os ns → AllByRecursion NotFirst ws → AllByRecursion NotFirst os → AllByRecursion NotFirst ns
 mixed_not_first behind a b = b
 mixed_not_first (next {o} {w} {n} {os} {ws} {ns} x xs) a b = (line x, mixed_not_first xs a.1 b.1)
   where
@@ -221,25 +221,25 @@ mixed_not_first (next {o} {w} {n} {os} {ws} {ns} x xs) a b = (line x, mixed_not_
     line (torn q) = inl q
     line (whole q) = rw q a.0
 
-mixed_tail : {ws os ns : List (List ℕ)} → Mixed ws os ns → All NotFirst (drop 1 ws) → All NotFirst (drop 1 os) → All NotFirst (drop 1 ns)
+mixed_tail : {ws os ns : List (List ℕ)} → Mixed ws os ns → AllByRecursion NotFirst (drop 1 ws) → AllByRecursion NotFirst (drop 1 os) → AllByRecursion NotFirst (drop 1 ns)
 mixed_tail behind a b = b
 mixed_tail (next x xs) a b = mixed_not_first xs a b
 
 -- a mixture on which no entry stands is free again
-pub mixed_fresh : {ws os ns : List (List ℕ)} → Mixed ws os ns → (owner r : ℕ) → All (MarkIs r) ws → All NotFirst (drop 1 ws) → Fresh owner r os →
+pub mixed_fresh : {ws os ns : List (List ℕ)} → Mixed ws os ns → (owner r : ℕ) → AllByRecursion (MarkIs r) ws → AllByRecursion NotFirst (drop 1 ws) → Fresh owner r os →
     stands owner ns ≡ false → Fresh owner (r + 1) ns
 mixed_fresh x owner r a b f h = record { closed = h; below = mixed_below x r a f.below; tail = mixed_tail x b f.tail }
 
 -- The entry that is written
 
-fit_marks : (n e m mark t : ℕ) (ls : List (List ℕ)) → length ls ≡ n → lines_fit n e m mark t ls ≡ true → All (MarkIs mark) ls
+fit_marks : (n e m mark t : ℕ) (ls : List (List ℕ)) → length ls ≡ n → lines_fit n e m mark t ls ≡ true → AllByRecursion (MarkIs mark) ls
 fit_marks n e m mark t [] k h = tt
 fit_marks zero e m mark t (l ∷ ls) k h = absurd (omega arith)
 fit_marks (suc n) e m mark t (l ∷ ls) k h =
     let p = fit_parts n e m mark t l ls h in
     (mark_of e m mark t l p.0, fit_marks n e m mark (t + 1) ls (omega arith) p.1)
 
-fit_numbers : (n e m mark t : ℕ) (ls : List (List ℕ)) → length ls ≡ n → 1 ≤ t → lines_fit n e m mark t ls ≡ true → All NotFirst ls
+fit_numbers : (n e m mark t : ℕ) (ls : List (List ℕ)) → length ls ≡ n → 1 ≤ t → lines_fit n e m mark t ls ≡ true → AllByRecursion NotFirst ls
 fit_numbers n e m mark t [] k low h = tt
 fit_numbers zero e m mark t (l ∷ ls) k low h = absurd (omega arith)
 fit_numbers (suc n) e m mark t (l ∷ ls) k low h =
@@ -251,7 +251,7 @@ fit_numbers (suc n) e m mark t (l ∷ ls) k low h =
 pub record Target (owner r : ℕ) (f : Entry) : Type 0 where
   pub entry : Stood owner f
   pub run : word entry.first 7 ≡ r
-  pub sized : All (λ l. length l ≡ 8) f.lines
+  pub sized : AllByRecursion (λ l. length l ≡ 8) f.lines
 
 module _ (owner r : ℕ) (f : Entry) (w : Target owner r f) where
   lines_are : f.lines ≡ w.entry.first ∷ w.entry.others
@@ -264,10 +264,10 @@ module _ (owner r : ℕ) (f : Entry) (w : Target owner r f) where
       subst₂ (λ (i j : ℕ). lines_fit i (word l 0) (word l 1) j 0 (l ∷ ls) ≡ true) w.entry.long w.run
       (stands_parts owner l ls w.entry.stood).1
 
-  pub target_marks : All (MarkIs r) f.lines
+  pub target_marks : AllByRecursion (MarkIs r) f.lines
   target_marks = rw lines_are (fit_marks _ _ _ r 0 (w.entry.first ∷ w.entry.others) refl fits)
 
-  pub target_numbers : All NotFirst (drop 1 f.lines)
+  pub target_numbers : AllByRecursion NotFirst (drop 1 f.lines)
   target_numbers =
       rw lines_are
       (fit_numbers _ _ _ r 1 w.entry.others refl (omega arith)

@@ -1,6 +1,6 @@
 -- The entry that a station writes: it can be read, and it tells the updates at its places.
 use Rattle.std.proofs.Common.{◌≡◌, ℕ, zero, suc, pred, ◌+◌, ◌-◌, ◌<◌, ◌≤◌, true, false, eqb, ◌⊎◌, List, [], ◌∷◌, length, get_or, sym, refl, ap, ◌∙◌, subst, ap₂, inl, inr, arith}
-use Rattle.std.specs.List.{AllByRecursion as All}
+use Rattle.std.specs.List.{AllByRecursion}
 use Rattle.std.proofs.lemmas.Bool.{and_from, eqb-false, cases_Bool}
 use Rattle.std.proofs.lemmas.Bool.Decides.{nat_tests}
 use Rattle.model.specs.Journal.{max_run, max_place, max_lines, station_count, entry_line, line_fits, lines_fit, begins, Entry, holding_lines}
@@ -101,7 +101,7 @@ module _ (us : List Update) (run e m : ℕ) (fits : e ≤ length us) (own_run : 
   at i = get_or us (pred i) no_update
 
   -- its lines tell these updates
-  pub target_agrees : (t n : ℕ) → t + n ≡ m → m ≤ e → All (Agrees us) (target_lines run at e m t n)
+  pub target_agrees : (t n : ℕ) → t + n ≡ m → m ≤ e → AllByRecursion (Agrees us) (target_lines run at e m t n)
   target_agrees t zero k h = tt
   target_agrees t (suc n) k h =
       let u = at (e - t) in

@@ -1,7 +1,7 @@
 -- What holds after every list of starts, rises, calls, steps, outcomes and cuts on a memory that was blank, whatever
 -- settles early and whatever a cut keeps.
 use Rattle.std.specs.Prelude.{◌≡◌, ℕ, zero, suc, pred, ◌<◌, ◌≤◌, min, List, [], ◌∷◌, map, length, take, Some, Ok, Err, ◌≢◌, slice_index_or}
-use Rattle.std.specs.List.{AllByRecursion as All}
+use Rattle.std.specs.List.{AllByRecursion}
 use Rattle.memory.specs.Model.{Mem}
 use Rattle.book.specs.declared.types.Op.{Op}
 use Rattle.book.specs.Rules.{Rules, Reply, apply_reply, ask_reply, after}
@@ -138,11 +138,11 @@ bounded_call (calls.Update o x) = bounded_phase x
 bounded_call (calls.Query o x) = bounded_query x
 
 abbrev pub bounded_entries : Mem → Type 0
-bounded_entries m = All (λ es. All (λ e. (1 ≤ length e.lines) × (length e.lines ≤ max_lines)) es) (logs m)
+bounded_entries m = AllByRecursion (λ es. AllByRecursion (λ e. (1 ≤ length e.lines) × (length e.lines ≤ max_lines)) es) (logs m)
 
 abbrev pub Bounded : {S : Type 0} → World S → Type 0
 Bounded (resting m) = bounded_entries m
-Bounded (running r) = All (λ x. bounded_call x.call) r.stations × bounded_entries r.memory
+Bounded (running r) = AllByRecursion (λ x. bounded_call x.call) r.stations × bounded_entries r.memory
 
 -- The law
 

@@ -7,7 +7,7 @@ use Rattle.forms.specs.declared.types.Pair.{Pair}
 use Rattle.tokens.specs.declared.types.Token.{Token}
 use Rattle.tokens.specs.declared.types.Token.TheVariants as tokens
 use Rattle.tokens.specs.Tokens.{Placed, unreadable, shape_of}
-use Rattle.std.specs.List.{AllByRecursion as All}
+use Rattle.std.specs.List.{AllByRecursion}
 use Rattle.forms.specs.Spoken.{Spoken, cut, pair_of, Proper, ProperPair}
 use Rattle.script.specs.Reading.{Step, then, next_token, placed, if_pair, pair, cut_form}
 
@@ -45,7 +45,7 @@ module _ (i : ℕ) (ps : List Pair) (len : ℕ) (ts : List Placed) where
 
 -- the pairs read so far are proper, and with the next one too
 abbrev pub ProperPairs : List Pair → ℕ → Type 0
-ProperPairs ps i = All (λ p. ProperPair (pair_of p)) (take i ps)
+ProperPairs ps i = AllByRecursion (λ p. ProperPair (pair_of p)) (take i ps)
 
 pub proper_more : (ps : List Pair) (i : ℕ) (p : Pair) → i < length ps → ProperPairs ps i → ProperPair (pair_of p) → ProperPairs (set ps i p) (i + 1)
 proper_more ps i p h before here = rw (take_more_set ps i p h) (All-push (λ p. ProperPair (pair_of p)) (take i ps) p before here)

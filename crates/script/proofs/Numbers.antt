@@ -4,7 +4,7 @@ use Rattle.std.proofs.lemmas.Fmt.{decimal_digit, decimal_nonempty, first_decimal
 use Rattle.std.proofs.lemmas.Str.Parse.{IsNumeralModel, numerals_by_fold, tells_all_ascii_digits}
 use Rattle.std.proofs.lemmas.List.{take-append-le, take_all}
 use Rattle.std.proofs.lemmas.Bool.{and_from, cases_lt, cond-true, cond-false, le-leb, lt-ltb, ne_eqb, not_from_false}
-use Rattle.std.specs.List.{AllByRecursion as All}
+use Rattle.std.specs.List.{AllByRecursion}
 use Rattle.std.specs.Str.{all_ascii_digits}
 use Rattle.tokens.specs.declared.types.Class.{Class}
 use Rattle.tokens.specs.declared.types.Class.TheVariants.{Digit}
@@ -42,7 +42,7 @@ digit_class d low high =
     ∙ cond-true _ _ _ (and_from _ _ (le-leb 48 d low) (le-leb d 57 high))
 
 abbrev Figures : List ℕ → Type 0
-Figures ds = All (λ d. class_of d ≡ Digit) ds
+Figures ds = AllByRecursion (λ d. class_of d ≡ Digit) ds
 
 figures : (ds : List ℕ) → all_ascii_digits ds ≡ true → Figures ds
 figures [] h = tt

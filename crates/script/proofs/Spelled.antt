@@ -3,7 +3,7 @@ use Rattle.std.proofs.Common.{◌≡◌, ℕ, zero, suc, ◌+◌, ◌*◌, ◌^�
 use Rattle.std.proofs.lemmas.Fmt.{length-decimal-le}
 use Rattle.std.proofs.lemmas.List.{append-nil, append_assoc}
 use Rattle.std.proofs.lemmas.Bool.{cond-false, le-ltb}
-use Rattle.std.specs.List.{AllByRecursion as All}
+use Rattle.std.specs.List.{AllByRecursion}
 use Rattle.tokens.specs.declared.types.Fault.{Fault}
 use Rattle.tokens.specs.declared.types.Class.{Class}
 use Rattle.tokens.specs.declared.types.Class.TheVariants.{Open, Close, Letter, Blank, Digit}
@@ -89,7 +89,7 @@ module _ (len : ℕ) where
 
   -- p is the class of the byte before
   pairs_back : (p : Class) → ((col : ℕ) → tokens_from p col (codes ")") ≡ record { column = col; shape = closing } ∷ []) →
-      (m : ℕ) (ps qs : List (ℕ × ℕ)) (col : ℕ) → length qs ≤ m → All ProperPair qs →
+      (m : ℕ) (ps qs : List (ℕ × ℕ)) (col : ℕ) → length qs ≤ m → AllByRecursion ProperPair qs →
       finished (cut_form m ps len (tokens_from p col (spelled_pairs qs ++ codes ")"))) ≡ Ok (cut (ps ++ qs))
   pairs_back p ends m ps [] col few h =
       ap (λ ts. finished (cut_form m ps len ts)) (ends col)
@@ -131,7 +131,7 @@ long_request (Reserve s b) h = simp length-append (omega (arith, long_decimal s 
 long_request (Cancel n) h = simp length-append (omega (arith, long_decimal n h))
 long_request (Holder n) h = simp length-append (omega (arith, long_decimal n h))
 
-long_pairs : (ps : List (ℕ × ℕ)) → All ProperPair ps → length (spelled_pairs ps) ≤ 10 * length ps
+long_pairs : (ps : List (ℕ × ℕ)) → AllByRecursion ProperPair ps → length (spelled_pairs ps) ≤ 10 * length ps
 long_pairs [] h = omega arith
 long_pairs (p ∷ ps) h = simp length-append (omega (arith, short_decimal p.0 (omega arith), short_decimal p.1 h.0.1, long_pairs ps h.1))
 
