@@ -5,7 +5,7 @@ use Rattle.tokens.specs.declared.types.Fault.{Fault}
 use Rattle.tokens.specs.Tokens.{Shape, Placed, tokens_of, unreadable}
 use Rattle.forms.specs.Spoken.{Spoken}
 use Rattle.script.specs.Grammar.{Slot, Pattern, accepts, rest_by, after, with_token, complete, meant, unless_none, read_by, table, read_line}
-use Rattle.script.specs.Laws.{Some, shapes, numbers, Has, Goes_on, SomeGoesOn, SomeHas, SomeMeans, Misfit, Unfinished, ReadsExactly}
+use Rattle.script.specs.Laws.{Some, shapes, numbers, Has, GoesOn, SomeGoesOn, SomeHas, SomeMeans, Misfit, Unfinished, ReadsExactly}
 
 -- what is told of a list of tokens
 abbrev Told : List Pattern → List ℕ → ℕ → List Placed → Result Spoken Fault → Type 0
@@ -55,7 +55,7 @@ module _ {s : Shape} {P Q : List Slot → (List ℕ → Spoken) → Type 0} (ste
   back [] h = h
   back (p ∷ ps) h = elim (split_rest p.slots p.meaning (after s ps) h) [ inl here ↦ inl here | inr there ↦ inr (back ps there) ]
 
-go_steps : (s : Shape) (ss : List Shape) → Steps s (λ xs f. Goes_on xs (s ∷ ss)) (λ xs f. Goes_on xs ss)
+go_steps : (s : Shape) (ss : List Shape) → Steps s (λ xs f. GoesOn xs (s ∷ ss)) (λ xs f. GoesOn xs ss)
 go_steps s ss = record { none = λ f h. h; accepted = λ x xs f h. h.0; inner = λ x xs f h. h.1; outer = λ x xs f a h. (a, h) }
 
 has_steps : (s : Shape) (ss : List Shape) → Steps s (λ xs f. Has xs (s ∷ ss)) (λ xs f. Has xs ss)

@@ -21,10 +21,10 @@ Has (x ∷ xs) [] = ⊥
 Has (x ∷ xs) (s ∷ ss) = (accepts x s ≡ true) × Has xs ss
 
 -- a form begins with these tokens
-abbrev pub Goes_on : List Slot → List Shape → Type 0
-Goes_on xs [] = Unit
-Goes_on [] (s ∷ ss) = ⊥
-Goes_on (x ∷ xs) (s ∷ ss) = (accepts x s ≡ true) × Goes_on xs ss
+abbrev pub GoesOn : List Slot → List Shape → Type 0
+GoesOn xs [] = Unit
+GoesOn [] (s ∷ ss) = ⊥
+GoesOn (x ∷ xs) (s ∷ ss) = (accepts x s ≡ true) × GoesOn xs ss
 
 -- some pattern of a table is so
 abbrev pub Some : (List Slot → (List ℕ → Spoken) → Type 0) → List Pattern → Type 0
@@ -32,7 +32,7 @@ Some P [] = ⊥
 Some P (p ∷ ps) = P p.slots p.meaning ⊎ Some P ps
 
 abbrev pub SomeGoesOn : List Pattern → List Shape → Type 0
-SomeGoesOn ps ss = Some (λ xs f. Goes_on xs ss) ps
+SomeGoesOn ps ss = Some (λ xs f. GoesOn xs ss) ps
 
 abbrev pub SomeHas : List Pattern → List Shape → Type 0
 SomeHas ps ss = Some (λ xs f. Has xs ss) ps
