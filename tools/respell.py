@@ -30,7 +30,8 @@ def shared(path, top):
 
 
 def declared(top):
-    """The names with a dash that are declared here, each with whether it is a type or fact everywhere."""
+    """The names with a dash that are declared here, and facts with an underscore, each with whether it is a type or fact
+    everywhere."""
     kinds = collections.defaultdict(set)
     for path in texts(top):
         if not path.endswith(".antt"):
@@ -38,7 +39,7 @@ def declared(top):
         for line in open(path, encoding="utf-8"):
             line = re.sub(r"\s*--.*", "", line.rstrip("\n"))
             m = DECL.match(line)
-            if not m or not re.search(r"\w-\w", m[2]) or m[2].startswith("-") or re.match(r"\s*(use|pub use|mod|pub mod|module|open)\b", line):
+            if not m or not re.search(r"\w-\w|^[A-Z]\w*_\w", m[2]) or m[2].startswith("-") or re.match(r"\s*(use|pub use|mod|pub mod|module|open)\b", line):
                 continue
             if not shared(path, top) and re.search(r":\s*(goal|given)\.", line):
                 continue
@@ -50,7 +51,7 @@ def declared(top):
 def respelled(name, kinds):
     if name[0].isupper():
         if kinds == {True}:
-            head, *rest = name.split("-")
+            head, *rest = re.split("[-_]", name)
             return head + "".join(r[0].upper() + r[1:] for r in rest)
         return None
     return re.sub(r"(?<=\w)-(?=\w)", "_", name)
@@ -67,6 +68,10 @@ def foreign(text):
 
 def turn(text, names, rust, own_proof, fields):
     skip = foreign(text)
+    if "AllByRecursion as All" in text:
+        # `All` is to stand for the library's own word of that name alone
+        text = text.replace("AllByRecursion as All", "AllByRecursion")
+        text = re.sub(IDENT, lambda m: "AllByRecursion" if m[0] == "All" else m[0], text)
 
     def word(m):
         w, before = m[0], m.string[m.start() - 1 : m.start()]
