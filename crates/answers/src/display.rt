@@ -9,8 +9,7 @@ impl fmt::Display for Decimal {
     ghost output = { λ d. Some (decimal d.0) };
 
     fn fmt<W: fmt::Write>(&self, f: &mut fmt::Formatter<W>) -> fmt::Result {
-        let n = self.0;
-        write!(f, "{n}")
+        write!(f, "{}", self.0)
     }
 }
 
@@ -21,32 +20,31 @@ impl fmt::Display for Answer {
         match *self {
             Answer::Fine => write!(f, "(ok)"),
             Answer::Run { number, found } => {
-                let number = Decimal(number);
-                let found = Decimal(found);
-                write!(f, "(run {number} {found})")
+                write!(f, "(run {} {})", Decimal(number), Decimal(found))
             }
-            Answer::Called { number } => {
-                let number = Decimal(number);
-                write!(f, "(open {number})")
-            }
+            Answer::Called { number } => write!(f, "(open {})", Decimal(number)),
             Answer::Replied { place, kind, value } => {
-                let place = Decimal(place);
-                let kind = Decimal(kind);
-                let value = Decimal(value);
-                write!(f, "(reply {place} {kind} {value})")
+                write!(
+                    f,
+                    "(reply {} {} {})",
+                    Decimal(place),
+                    Decimal(kind),
+                    Decimal(value)
+                )
             }
             Answer::Done { place, kind, value } => {
-                let place = Decimal(place);
-                let kind = Decimal(kind);
-                let value = Decimal(value);
-                write!(f, "(done {place} {kind} {value})")
+                write!(
+                    f,
+                    "(done {} {} {})",
+                    Decimal(place),
+                    Decimal(kind),
+                    Decimal(value)
+                )
             }
             Answer::Open => write!(f, "(open)"),
             Answer::Never => write!(f, "(none)"),
             Answer::Refused { number, detail } => {
-                let number = Decimal(number);
-                let detail = Decimal(detail);
-                write!(f, "(no {number} {detail})")
+                write!(f, "(no {} {})", Decimal(number), Decimal(detail))
             }
         }
     }

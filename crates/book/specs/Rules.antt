@@ -1,7 +1,8 @@
 -- What a book means: a state, and rules that stay as they are.
-use Rattle.std.specs.Prelude.{ℕ, Bool, true, false, cond, List, [], ◌∷◌}
+use Rattle.std.specs.Prelude.{◌≡◌, ℕ, Bool, true, false, cond, List, [], ◌∷◌, Some, None, Ok, Err, Option, Result}
 use Rattle.book.specs.declared.types.Op.{Op}
 use Rattle.book.specs.declared.types.Sort.{Sort}
+use Rattle.book.specs.declared.types.UnknownOp.{UnknownOp}
 use Rattle.book.specs.declared.types.Sort.TheVariants.{Update, Query, Neither}
 
 -- kind and value
@@ -29,6 +30,16 @@ abbrev pub is_query : Sort → Bool
 is_query Update = false
 is_query Query = true
 is_query Neither = false
+
+-- what an operation asks: a request, or nothing
+abbrev pub Asks : {Q : Type 0} → (Op → Option Q) → Op → Result Q UnknownOp → Type 0
+Asks request o (Ok q) = request o ≡ Some q
+Asks request o (Err e) = (request o ≡ None) × (e.0 ≡ o)
+
+-- the operation that stands for a request, and is read as no other
+pub record Stands {Q : Type 0} (op : Q → Op) (request : Op → Option Q) (Range : Q → Type 0) (q : Q) (o : Op) : Type 0 where
+  pub value : o ≡ op q
+  pub stands : Range q → request o ≡ Some q
 
 -- the reply to an operation of the wrong sort
 abbrev pub wrong_sort : Reply

@@ -1,6 +1,6 @@
 -- The slots of a sailing: what each holds, and the last reservation number that was given.
-use Rattle.std.specs.Prelude.{ℕ, suc, ◌+◌, ◌*◌, ◌/◌, ◌%◌, ◌^◌, ◌<◌, ◌≤◌, Bool, false, cond, ◌&&◌, List, [], ◌∷◌, replicate, Some, None, Option, ◌==◌, nat_le, nat_lt, slice_index_or, slice_set}
-use Rattle.std.specs.Option.{option_map}
+use Rattle.std.specs.Prelude.{ℕ, ◌+◌, ◌*◌, ◌/◌, ◌%◌, ◌^◌, ◌<◌, ◌≤◌, Bool, false, cond, ◌&&◌, List, replicate, Some, None, Option, ◌==◌, nat_le, nat_lt, slice_index_or, slice_set}
+use Rattle.std.specs.List.{position}
 use Rattle.book.specs.Rules.{Rules, Reply, wrong_sort}
 use Rattle.book.specs.declared.types.Op.{Op}
 use Rattle.book.specs.declared.types.Reservation.{Reservation}
@@ -77,8 +77,7 @@ holds n None = false
 
 -- the first slot that holds a number
 abbrev pub slot_of : ℕ → List (Option Reservation) → Option ℕ
-slot_of n [] = None
-slot_of n (x ∷ xs) = cond (holds n x) (Some 0) (option_map suc (slot_of n xs))
+slot_of n xs = position (holds n) xs
 
 abbrev pub number_left : Plan → Bool
 number_left p = nat_lt p.last last_number

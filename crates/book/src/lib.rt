@@ -10,7 +10,7 @@ mod tally;
 mod tests;
 mod types;
 
-pub use types::{Op, Reservation, Slots, SlotsRequest, Sort, Tally, TallyRequest};
+pub use types::{Op, Reservation, Slots, SlotsRequest, Sort, Tally, TallyRequest, UnknownOp};
 
 // The reply to an operation of the wrong sort.
 pub const WRONG_SORT: (u64, u64) = (255, 0);
@@ -47,12 +47,12 @@ pub trait Book {
         ensures reply { result ≡ ask_reply (rules self.old) (state self.old) op };
 }
 
-impl Sort {
-    // 1 for an update, 2 for a query, 0 for neither.
-    pub fn number(self) -> u64
-        ensures { result ≡ sort_number self }
-    {
-        match self {
+// 1 for an update, 2 for a query, 0 for neither.
+impl From<Sort> for u64 {
+    ghost from_gives = { λ sort n. n ≡ sort_number sort };
+
+    fn from(sort: Sort) -> u64 {
+        match sort {
             Sort::Update => 1,
             Sort::Query => 2,
             Sort::Neither => 0,

@@ -1,9 +1,9 @@
-ghost use Rattle.std.specs.Prelude.{◌≡◌, ◌<◌, List, IfSome, Some};
+ghost use Rattle.std.specs.Prelude.{◌≡◌, ◌<◌, List, IfSome};
+ghost use Rattle.book.specs.Rules.{Stands, Asks};
 ghost use Rattle.book.specs.Numbers.{Numbered};
 ghost use Rattle.book.specs.Slots.{Plan, empty_plan, slots_rules, slots_op, slots_request, SlotsRange, slot_at, slot_of, reserved, reserve_reply, cancelled, cancel_reply, holder_reply};
-ghost use Rattle.book.specs.View.{plan_of};
 
-use super::types::{Op, Reservation, Slots, SlotsRequest, Sort};
+use super::types::{Op, Reservation, Slots, SlotsRequest, Sort, UnknownOp};
 use super::{Book, WRONG_SORT};
 
 const LAST_SLOT: u64 = 63;
@@ -12,13 +12,12 @@ const LAST_NUMBER: u32 = 1_000_000;
 // A reservation's argument is the slot times this, plus the container.
 const SLOT_UNIT: u64 = 1 << 32;
 
-impl SlotsRequest {
-    // The operation that stands for a request, and for no other.
-    pub fn op(self) -> Op
-        ensures value { result ≡ slots_op self }
-        ensures stands { SlotsRange self → slots_request result ≡ Some self }
-    {
-        match self {
+// The operation that stands for a request, and for no other.
+impl From<SlotsRequest> for Op {
+    ghost from_gives = { λ request op. Stands slots_op slots_request SlotsRange request op };
+
+    fn from(request: SlotsRequest) -> Op {
+        match request {
             SlotsRequest::Reserve { slot, container } => Op {
                 code: 1,
                 argument: u64::from(slot) * SLOT_UNIT + u64::from(container),
@@ -35,40 +34,38 @@ impl SlotsRequest {
     }
 }
 
-// What an operation asks of the slots, if anything.
-fn slots_request(op: Op) -> Option<SlotsRequest>
-    ensures { result ≡ slots_request op }
-{
-    let slot = op.argument / SLOT_UNIT;
-    let container = op.argument % SLOT_UNIT;
-    match op.code {
-        1 if slot <= LAST_SLOT && container >= 1 => Some(SlotsRequest::Reserve {
-            slot: slot as u32,
-            container: container as u32,
-        }),
-        2 if op.argument >= 1 && op.argument <= u64::from(LAST_NUMBER) => Some(
-            SlotsRequest::Cancel {
-                number: op.argument as u32,
-            },
-        ),
-        3 if op.argument <= LAST_SLOT => Some(SlotsRequest::Holder {
-            slot: op.argument as u32,
-        }),
-        _ => None,
+// What an operation asks of the slots.
+impl TryFrom<Op> for SlotsRequest {
+    type Error = UnknownOp;
+
+    ghost try_from_gives = { Asks slots_request };
+
+    fn try_from(op: Op) -> Result<Self, UnknownOp> {
+        let slot = op.argument / SLOT_UNIT;
+        let container = op.argument % SLOT_UNIT;
+        match op.code {
+            1 if slot <= LAST_SLOT && container >= 1 => Ok(SlotsRequest::Reserve {
+                slot: slot as u32,
+                container: container as u32,
+            }),
+            2 if op.argument >= 1 && op.argument <= u64::from(LAST_NUMBER) => Ok(
+                SlotsRequest::Cancel {
+                    number: op.argument as u32,
+                },
+            ),
+            3 if op.argument <= LAST_SLOT => Ok(SlotsRequest::Holder {
+                slot: op.argument as u32,
+            }),
+            _ => Err(UnknownOp(op)),
+        }
     }
 }
 
 impl Slots {
     // Every slot empty, no number given; and what is promised of the numbers, whatever operations are then applied.
     pub fn new() -> Self
-        ensures first { plan_of result ≡ empty_plan }
+        ensures first { result ≡ empty_plan }
         ensures numbered { (os : List Op) → Numbered os }
-    {
-        Slots::empty()
-    }
-
-    fn empty() -> Self
-        ensures { plan_of result ≡ empty_plan }
     {
         Slots {
             slots: [None; 64],
@@ -81,20 +78,15 @@ impl Slots {
         ensures value { result ≡ slot_of number self.now.slots }
         ensures within { IfSome result (λ i. i < 64) }
     {
-        for (i, slot) in self.slots.iter().enumerate() {
-            if let Some(r) = slot
-                && r.number == number
-            {
-                return Some(i);
-            }
-        }
-        None
+        self.slots
+            .iter()
+            .position(|slot| matches!(slot, Some(held) if held.number == number))
     }
 
     fn reserve(&mut self, slot: u32, container: u32) -> (u64, u64)
         requires { slot < 64 }
-        ensures next { plan_of self.new ≡ reserved (plan_of self.old) slot container (slot_at (plan_of self.old) slot) }
-        ensures reply { result ≡ reserve_reply (plan_of self.old) (slot_at (plan_of self.old) slot) }
+        ensures next { self.new ≡ reserved self.old slot container (slot_at self.old slot) }
+        ensures reply { result ≡ reserve_reply self.old (slot_at self.old slot) }
     {
         let slot = slot as usize;
         if let Some(held) = self.slots[slot] {
@@ -110,7 +102,7 @@ impl Slots {
     }
 
     fn cancel(&mut self, number: u32) -> (u64, u64)
-        ensures next { plan_of self.new ≡ cancelled (plan_of self.old) (slot_of number self.old.slots) }
+        ensures next { self.new ≡ cancelled self.old (slot_of number self.old.slots) }
         ensures reply { result ≡ cancel_reply number (slot_of number self.old.slots) }
     {
         match self.slot_of(number) {
@@ -124,7 +116,7 @@ impl Slots {
 
     fn holder(&self, slot: u32) -> (u64, u64)
         requires { slot < 64 }
-        ensures { result ≡ holder_reply (slot_at (plan_of self.now) slot) }
+        ensures { result ≡ holder_reply (slot_at self.now slot) }
     {
         match self.slots[slot as usize] {
             Some(held) => (0, u64::from(held.container)),
@@ -138,32 +130,32 @@ impl Book for Slots {
 
     ghost rules = { λ _. slots_rules };
 
-    ghost state = { plan_of };
+    ghost state = { λ b. b };
 
     fn reset(&mut self) {
-        *self = Slots::empty();
+        *self = Slots::new();
     }
 
     fn sort(&self, op: Op) -> Sort {
-        match slots_request(op) {
-            Some(SlotsRequest::Reserve { .. }) => Sort::Update,
-            Some(SlotsRequest::Cancel { .. }) => Sort::Update,
-            Some(SlotsRequest::Holder { .. }) => Sort::Query,
-            None => Sort::Neither,
+        match SlotsRequest::try_from(op) {
+            Ok(SlotsRequest::Reserve { .. }) => Sort::Update,
+            Ok(SlotsRequest::Cancel { .. }) => Sort::Update,
+            Ok(SlotsRequest::Holder { .. }) => Sort::Query,
+            Err(UnknownOp(_)) => Sort::Neither,
         }
     }
 
     fn apply(&mut self, op: Op) -> (u64, u64) {
-        match slots_request(op) {
-            Some(SlotsRequest::Reserve { slot, container }) => self.reserve(slot, container),
-            Some(SlotsRequest::Cancel { number }) => self.cancel(number),
+        match SlotsRequest::try_from(op) {
+            Ok(SlotsRequest::Reserve { slot, container }) => self.reserve(slot, container),
+            Ok(SlotsRequest::Cancel { number }) => self.cancel(number),
             _ => WRONG_SORT,
         }
     }
 
     fn ask(&mut self, op: Op) -> (u64, u64) {
-        match slots_request(op) {
-            Some(SlotsRequest::Holder { slot }) => self.holder(slot),
+        match SlotsRequest::try_from(op) {
+            Ok(SlotsRequest::Holder { slot }) => self.holder(slot),
             _ => WRONG_SORT,
         }
     }

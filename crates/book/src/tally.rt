@@ -1,20 +1,20 @@
-ghost use Rattle.std.specs.Prelude.{◌≡◌, ℕ, Some};
+ghost use Rattle.std.specs.Prelude.{◌≡◌, ℕ};
+ghost use Rattle.book.specs.Rules.{Stands, Asks};
 ghost use Rattle.book.specs.Tally.{tally_rules, tally_op, tally_request, TallyRange};
 
-use super::types::{Op, Sort, Tally, TallyRequest};
+use super::types::{Op, Sort, Tally, TallyRequest, UnknownOp};
 use super::{Book, WRONG_SORT};
 
 const MOST_ADDED: u64 = 65_535;
 
 const MOST_TALLIED: u64 = 1_000_000;
 
-impl TallyRequest {
-    // The operation that stands for a request, and for no other.
-    pub fn op(self) -> Op
-        ensures value { result ≡ tally_op self }
-        ensures stands { TallyRange self → tally_request result ≡ Some self }
-    {
-        match self {
+// The operation that stands for a request, and for no other.
+impl From<TallyRequest> for Op {
+    ghost from_gives = { λ request op. Stands tally_op tally_request TallyRange request op };
+
+    fn from(request: TallyRequest) -> Op {
+        match request {
             TallyRequest::Add { amount } => Op {
                 code: 1,
                 argument: amount,
@@ -27,16 +27,20 @@ impl TallyRequest {
     }
 }
 
-// What an operation asks of a tally, if anything.
-fn tally_request(op: Op) -> Option<TallyRequest>
-    ensures { result ≡ tally_request op }
-{
-    match op.code {
-        1 if op.argument >= 1 && op.argument <= MOST_ADDED => Some(TallyRequest::Add {
-            amount: op.argument,
-        }),
-        2 if op.argument == 0 => Some(TallyRequest::Read),
-        _ => None,
+// What an operation asks of a tally.
+impl TryFrom<Op> for TallyRequest {
+    type Error = UnknownOp;
+
+    ghost try_from_gives = { Asks tally_request };
+
+    fn try_from(op: Op) -> Result<Self, UnknownOp> {
+        match op.code {
+            1 if op.argument >= 1 && op.argument <= MOST_ADDED => Ok(TallyRequest::Add {
+                amount: op.argument,
+            }),
+            2 if op.argument == 0 => Ok(TallyRequest::Read),
+            _ => Err(UnknownOp(op)),
+        }
     }
 }
 
@@ -60,16 +64,16 @@ impl Book for Tally {
     }
 
     fn sort(&self, op: Op) -> Sort {
-        match tally_request(op) {
-            Some(TallyRequest::Add { .. }) => Sort::Update,
-            Some(TallyRequest::Read) => Sort::Query,
-            None => Sort::Neither,
+        match TallyRequest::try_from(op) {
+            Ok(TallyRequest::Add { .. }) => Sort::Update,
+            Ok(TallyRequest::Read) => Sort::Query,
+            Err(UnknownOp(_)) => Sort::Neither,
         }
     }
 
     fn apply(&mut self, op: Op) -> (u64, u64) {
-        match tally_request(op) {
-            Some(TallyRequest::Add { amount }) => {
+        match TallyRequest::try_from(op) {
+            Ok(TallyRequest::Add { amount }) => {
                 let sum = self.value.saturating_add(amount);
                 if sum <= MOST_TALLIED {
                     self.value = sum;
@@ -83,8 +87,8 @@ impl Book for Tally {
     }
 
     fn ask(&mut self, op: Op) -> (u64, u64) {
-        match tally_request(op) {
-            Some(TallyRequest::Read) => (0, self.value),
+        match TallyRequest::try_from(op) {
+            Ok(TallyRequest::Read) => (0, self.value),
             _ => WRONG_SORT,
         }
     }

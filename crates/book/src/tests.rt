@@ -4,13 +4,6 @@ use std::process::Abort;
 
 const SLOT: u64 = 1 << 32;
 
-// Which of the two methods replies.
-#[derive(Clone, Copy)]
-enum By {
-    Apply,
-    Ask,
-}
-
 fn op(code: u64, argument: u64) -> Op {
     Op { code, argument }
 }
@@ -23,21 +16,23 @@ fn all_are<B: Book>(rt: &impl Abort, book: &B, sort: Sort, ops: &[(u64, u64)]) {
 }
 
 // Each operation of a list, by code and argument, gets its reply.
-fn replies<B: Book>(rt: &impl Abort, book: &mut B, by: By, steps: &[(u64, u64, (u64, u64))]) {
-    for (code, argument, reply) in steps {
-        let told = match by {
-            By::Apply => book.apply(op(*code, *argument)),
-            By::Ask => book.ask(op(*code, *argument)),
-        };
-        assert_eq!(rt; told, *reply);
+fn replies<F: FnMut(Op) -> (u64, u64)>(
+    rt: &impl Abort,
+    mut reply: F,
+    steps: &[(u64, u64, (u64, u64))],
+)
+    requires { F.IsAlwaysCallable reply }
+{
+    for (code, argument, wanted) in steps {
+        assert_eq!(rt; reply(op(*code, *argument)), *wanted);
     }
 }
 
 #[test]
 fn sorts_have_their_numbers(rt: HostRuntime) {
-    assert_eq!(rt; Sort::Update.number(), 1);
-    assert_eq!(rt; Sort::Query.number(), 2);
-    assert_eq!(rt; Sort::Neither.number(), 0);
+    assert_eq!(rt; u64::from(Sort::Update), 1);
+    assert_eq!(rt; u64::from(Sort::Query), 2);
+    assert_eq!(rt; u64::from(Sort::Neither), 0);
 }
 
 #[test]
@@ -65,8 +60,7 @@ fn tally_adds_up_to_its_limit(rt: HostRuntime) {
     let mut tally = Tally { value: 934_464 };
     replies(
         &rt,
-        &mut tally,
-        By::Apply,
+        |op| tally.apply(op),
         &[
             (1, 65_535, (0, 999_999)),
             (1, 2, (1, 999_999)),
@@ -76,18 +70,16 @@ fn tally_adds_up_to_its_limit(rt: HostRuntime) {
     );
     replies(
         &rt,
-        &mut tally,
-        By::Ask,
+        |op| tally.ask(op),
         &[(2, 0, (0, 1_000_000)), (1, 1, (255, 0)), (2, 1, (255, 0))],
     );
     replies(
         &rt,
-        &mut tally,
-        By::Apply,
+        |op| tally.apply(op),
         &[(2, 0, (255, 0)), (1, 65_536, (255, 0))],
     );
     tally.reset();
-    replies(&rt, &mut tally, By::Ask, &[(2, 0, (0, 0))]);
+    replies(&rt, |op| tally.ask(op), &[(2, 0, (0, 0))]);
 }
 
 #[test]
@@ -122,8 +114,7 @@ fn slots_reserve_cancel_and_tell(rt: HostRuntime) {
     let mut slots = Slots::new();
     replies(
         &rt,
-        &mut slots,
-        By::Apply,
+        |op| slots.apply(op),
         &[
             (1, 1, (0, 1)),
             (1, 63 * SLOT + SLOT - 1, (0, 2)),
@@ -132,8 +123,7 @@ fn slots_reserve_cancel_and_tell(rt: HostRuntime) {
     );
     replies(
         &rt,
-        &mut slots,
-        By::Ask,
+        |op| slots.ask(op),
         &[
             (3, 0, (0, 1)),
             (3, 63, (0, SLOT - 1)),
@@ -144,8 +134,7 @@ fn slots_reserve_cancel_and_tell(rt: HostRuntime) {
     );
     replies(
         &rt,
-        &mut slots,
-        By::Apply,
+        |op| slots.apply(op),
         &[
             (2, 2, (0, 63)),
             (2, 2, (2, 2)),
@@ -155,10 +144,10 @@ fn slots_reserve_cancel_and_tell(rt: HostRuntime) {
             (1, 64 * SLOT + 1, (255, 0)),
         ],
     );
-    replies(&rt, &mut slots, By::Ask, &[(3, 63, (0, 5))]);
+    replies(&rt, |op| slots.ask(op), &[(3, 63, (0, 5))]);
     slots.reset();
-    replies(&rt, &mut slots, By::Ask, &[(3, 0, (3, 0))]);
-    replies(&rt, &mut slots, By::Apply, &[(1, 1, (0, 1))]);
+    replies(&rt, |op| slots.ask(op), &[(3, 0, (3, 0))]);
+    replies(&rt, |op| slots.apply(op), &[(1, 1, (0, 1))]);
 }
 
 #[test]
@@ -169,8 +158,7 @@ fn slots_run_out_of_numbers(rt: HostRuntime) {
     };
     replies(
         &rt,
-        &mut slots,
-        By::Apply,
+        |op| slots.apply(op),
         &[
             (1, SLOT + 7, (0, 1_000_000)),
             (1, 2 * SLOT + 7, (4, 0)),

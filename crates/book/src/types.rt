@@ -1,11 +1,17 @@
-ghost use Rattle.std.specs.Prelude.{◌≡◌, ◌≤◌, length};
+ghost use Rattle.std.specs.Prelude.{◌≤◌};
+
+use std::marker::Model;
 
 // An operation on a book.
-#[derive(Clone, Copy)]
+#[derive(Clone, Copy, PartialEq, Debug, Default)]
 pub struct Op {
     pub code: u64,
     pub argument: u64,
 }
+
+// An operation that asks nothing of a book.
+#[derive(Clone, Copy, PartialEq, Debug)]
+pub struct UnknownOp(pub Op);
 
 // What an operation is to a book, by the operation alone.
 #[derive(Clone, Copy, PartialEq, Debug)]
@@ -49,5 +55,15 @@ pub struct Reservation {
 pub struct Slots {
     pub(crate) slots: [Option<Reservation>; 64],
     pub(crate) last: u32,
-    ghost sized: { length slots ≡ 64 },
+}
+
+impl Model for Slots {
+    ghost use Rattle.std.specs.Prelude.{◌≡◌, length};
+    ghost use Rattle.book.specs.Slots.{Plan};
+
+    ghost Value = { Plan };
+
+    ghost view = { λ s. record { slots = s.slots; last = s.last } };
+
+    ghost invariant = { λ s. length s.slots ≡ 64 };
 }

@@ -2,8 +2,9 @@ ghost use Rattle.std.specs.Prelude.{◌≡◌};
 ghost use Rattle.book.specs.Rules.{applied};
 ghost use Rattle.desk.specs.Desk.{performed_reply};
 
-use super::lines::{SlotsLine, TallyLine};
+use super::lines::Line;
 use book::{Book, Op, Slots, SlotsRequest, Sort, Tally, TallyRequest, WRONG_SORT};
+use std::fmt::Display;
 use std::io;
 
 // Does what the operation's sort says: applies an update, asks a query.
@@ -17,6 +18,15 @@ fn perform<B: Book>(book: &mut B, op: Op) -> (u64, u64)
         Sort::Query => book.ask(op),
         Sort::Neither => WRONG_SORT,
     }
+}
+
+// Performs a request, and prints it with the reply.
+fn show<B: Book, R: Copy + Into<Op>>(rt: &impl Print, book: &mut B, request: R) -> io::Result<()>
+where
+    Line<R>: Display,
+{
+    let reply = perform(book, request.into());
+    rt.println(Line { request, reply })
 }
 
 // A slot is booked, given up and booked for another box, and the first booking is cancelled once more, too late.
@@ -41,8 +51,7 @@ pub(super) fn bookings(rt: &impl Print) -> io::Result<()> {
         SlotsRequest::Holder { slot: 3 },
     ];
     for request in requests {
-        let reply = perform(&mut slots, request.op());
-        rt.println(SlotsLine { request, reply })?;
+        show(rt, &mut slots, request)?;
     }
     Ok(())
 }
@@ -56,9 +65,4 @@ pub(super) fn tally(rt: &impl Print) -> io::Result<()> {
     show(rt, &mut tally, TallyRequest::Add { amount: 16_975 })?;
     show(rt, &mut tally, TallyRequest::Add { amount: 1 })?;
     show(rt, &mut tally, TallyRequest::Read)
-}
-
-fn show(rt: &impl Print, tally: &mut Tally, request: TallyRequest) -> io::Result<()> {
-    let reply = perform(tally, request.op());
-    rt.println(TallyLine { request, reply })
 }

@@ -1,14 +1,14 @@
 use book::{SlotsRequest, TallyRequest};
 use std::fmt;
 
-// A request to the slots with the reply to it.
+// A request with the reply to it.
 #[derive(Clone, Copy)]
-pub struct SlotsLine {
-    pub request: SlotsRequest,
+pub struct Line<R> {
+    pub request: R,
     pub reply: (u64, u64),
 }
 
-impl fmt::Display for SlotsLine {
+impl fmt::Display for Line<SlotsRequest> {
     fn fmt<W: fmt::Write>(&self, f: &mut fmt::Formatter<W>) -> fmt::Result {
         let (kind, value) = self.reply;
         match self.request {
@@ -38,14 +38,7 @@ impl fmt::Display for SlotsLine {
     }
 }
 
-// A request to the tally with the reply to it.
-#[derive(Clone, Copy)]
-pub struct TallyLine {
-    pub request: TallyRequest,
-    pub reply: (u64, u64),
-}
-
-impl fmt::Display for TallyLine {
+impl fmt::Display for Line<TallyRequest> {
     fn fmt<W: fmt::Write>(&self, f: &mut fmt::Formatter<W>) -> fmt::Result {
         let (kind, value) = self.reply;
         match self.request {

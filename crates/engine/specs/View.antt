@@ -2,7 +2,6 @@
 use Rattle.memory.specs.Model.{Mem}
 use Rattle.book.specs.Rules.{Rules}
 use Rattle.model.specs.Machine.{Machine}
-use Rattle.order.specs.Places.{places}
 use Rattle.engine.specs.declared.types.Run.{Run}
 
 -- by what its memory and its book mean
@@ -10,7 +9,7 @@ abbrev pub view : {M B S : Type 0} → (M → Mem) → (B → Rules S) → (B �
 view model rules state r = record {
   status = r.table.status;
   number = r.table.number;
-  order = places r.table.order;
+  order = r.table.order;
   stations = r.table.stations;
   memory = model r.memory;
   rules = rules r.book;

@@ -7,21 +7,58 @@ ghost use Rattle.model.specs.History.World.{resting, running};
 ghost use Rattle.engine.specs.View.{view};
 ghost use Rattle.engine.specs.Onward.{Onward};
 
-use super::types::Run;
+use super::run::shut;
+use super::types::{Run, Table};
 use book::Book;
 use memory::Memory;
-use model::{Refusal, Started};
+use model::{Refusal, Rise, Started, Status};
+use recovery::{Recovered, recover};
 
 impl<M: Memory, B: Book> Run<M, B> {
     // Makes a run of a memory and a book, and tells its number and how many updates it found. A refused start makes a shut
     // run.
-    pub fn start(memory: M, book: B) -> (Self, Result<Started, Refusal>)
+    #[tactic(auto, using(crate::proofs::Going::start_onward))]
+    pub fn start(memory: M, mut book: B) -> (Self, Result<Started, Refusal>)
         ensures run { view M.Memory.model B.Book.rules B.Book.state result.0 ≡ started (B.Book.rules book) (M.Memory.model memory) }
         ensures answer { result.1 ≡ start_answer (view M.Memory.model B.Book.rules B.Book.state result.0) result.0.table.status }
         ensures memory { result.0.memory ≡ memory }
         ensures lasting { Onward (B.Book.rules book) (resting (M.Memory.model memory)) (Moment.started result.1) (running (view M.Memory.model B.Book.rules B.Book.state result.0)) }
     {
-        Run::found_in(memory, book)
+        book.reset();
+        match recover(&memory, &book) {
+            Ok(found) => {
+                let Recovered {
+                    run,
+                    order,
+                    stations,
+                } = found;
+                let started = Started {
+                    run,
+                    found: order.len(),
+                };
+                let table = Table {
+                    stations,
+                    order,
+                    number: run,
+                    status: Status::Rising(Rise::Store),
+                };
+                let run = Run {
+                    memory,
+                    book,
+                    table,
+                };
+                (run, Ok(started))
+            }
+            Err(refusal) => {
+                let table = shut(refusal);
+                let run = Run {
+                    memory,
+                    book,
+                    table,
+                };
+                (run, Err(refusal))
+            }
+        }
     }
 
     // Carries a rising run one step further, until it is up.
@@ -43,6 +80,13 @@ impl<M: Memory, B: Book + Drop> Run<M, B> {
         ensures aside { M.Memory.aside result ≡ M.Memory.aside self.memory }
         ensures lasting { Onward (B.Book.rules self.book) (running (view M.Memory.model B.Book.rules B.Book.state self)) (Moment.cut (length (found (M.Memory.model result)))) (resting (M.Memory.model result)) }
     {
-        self.cut_off(kept)
+        let Run {
+            memory,
+            book: _,
+            table: _,
+        } = self;
+        let mut memory = memory;
+        memory.cut(kept);
+        memory
     }
 }

@@ -1,20 +1,14 @@
-ghost use Rattle.std.specs.Prelude.{◌≡◌, ℕ, List, [], length, replicate, OnErr};
-ghost use Rattle.memory.specs.Model.{cut};
-ghost use Rattle.model.specs.Machine.{started, start_answer, idle_station, rising, left, allowed, found};
+ghost use Rattle.std.specs.Prelude.{◌≡◌, ℕ, List, [], replicate, OnErr};
+ghost use Rattle.model.specs.Machine.{idle_station, rising, left, allowed};
 ghost use Rattle.model.specs.Journal.{station_count};
 ghost use Rattle.model.specs.declared.types.Status.TheVariants.{Shut};
-ghost use Rattle.order.specs.Places.{places};
-ghost use Rattle.model.specs.History as history;
-ghost use Rattle.model.specs.History.World.{resting, running};
 ghost use Rattle.engine.specs.View.{view};
-ghost use Rattle.engine.specs.Onward.{Onward};
 
 use super::types::{Run, Table};
 use book::Book;
 use memory::Memory;
-use model::{Call, Refusal, Rise, Started, Station, Status};
+use model::{Call, Refusal, Rise, Station, Status};
 use order::Order;
-use recovery::{Recovered, recover};
 
 const IDLE: Station = Station {
     call: Call::Idle,
@@ -23,10 +17,10 @@ const IDLE: Station = Station {
 };
 
 // The table of a run whose start was refused.
-fn shut(refusal: Refusal) -> Table
+pub(crate) fn shut(refusal: Refusal) -> Table
     ensures status { result.status ≡ Shut refusal }
     ensures number { result.number ≡ 0 }
-    ensures order { places result.order ≡ [] }
+    ensures order { result.order ≡ [] }
     ensures stations { result.stations ≡ replicate station_count (idle_station 0) }
 {
     Table {
@@ -38,51 +32,6 @@ fn shut(refusal: Refusal) -> Table
 }
 
 impl<M: Memory, B: Book> Run<M, B> {
-    // Makes a run of a memory and a book, and tells its number and how many updates it found. A refused start makes a shut
-    // run.
-    pub(crate) fn found_in(memory: M, book: B) -> (Self, Result<Started, Refusal>)
-        ensures run { view M.Memory.model B.Book.rules B.Book.state result.0 ≡ started (B.Book.rules book) (M.Memory.model memory) }
-        ensures answer { result.1 ≡ start_answer (view M.Memory.model B.Book.rules B.Book.state result.0) result.0.table.status }
-        ensures memory { result.0.memory ≡ memory }
-    {
-        let mut book = book;
-        book.reset();
-        match recover(&memory, &book) {
-            Ok(found) => {
-                let Recovered {
-                    run,
-                    order,
-                    stations,
-                } = found;
-                let started = Started {
-                    run,
-                    found: order.len(),
-                };
-                let table = Table {
-                    stations,
-                    order,
-                    number: run,
-                    status: Status::Rising(Rise::Store),
-                };
-                let run = Run {
-                    memory,
-                    book,
-                    table,
-                };
-                (run, Ok(started))
-            }
-            Err(refusal) => {
-                let table = shut(refusal);
-                let run = Run {
-                    memory,
-                    book,
-                    table,
-                };
-                (run, Err(refusal))
-            }
-        }
-    }
-
     // Carries a rising run one step further.
     pub(crate) fn rise_once(&mut self) -> Result<(), Refusal>
         ensures answer { result ≡ (rising (view M.Memory.model B.Book.rules B.Book.state self.old) self.old.table.status).answer }
@@ -109,22 +58,5 @@ impl<M: Memory, B: Book> Run<M, B> {
                 Ok(())
             }
         }
-    }
-}
-
-impl<M: Memory, B: Book + Drop> Run<M, B> {
-    // Gives back the memory, cut.
-    pub(crate) fn cut_off(self, kept: &[u8]) -> M
-        ensures cut { (ns : List ℕ) × M.Memory.freedom.kept_by (M.Memory.model self.memory) kept.now ns × (M.Memory.model result ≡ cut ns (M.Memory.model self.memory)) }
-        ensures aside { M.Memory.aside result ≡ M.Memory.aside self.memory }
-    {
-        let Run {
-            memory,
-            book: _,
-            table: _,
-        } = self;
-        let mut memory = memory;
-        memory.cut(kept);
-        memory
     }
 }

@@ -1,6 +1,6 @@
 -- The pairs of a cut, spelled one after the other.
-use Rattle.std.proofs.Common.{◌≡◌, ℕ, ◌+◌, ◌<◌, ◌≤◌, List, [], ◌∷◌, ◌++◌, map, length, get_or, take, sym, ap, ◌∙◌}
-use Rattle.std.proofs.lemmas.List.{append-nil, append_assoc, map_push, take_more, take_all}
+use Rattle.std.proofs.Common.{◌≡◌, ℕ, ◌+◌, ◌<◌, List, [], ◌∷◌, ◌++◌, map, length, get_or, take, sym, ap, ◌∙◌}
+use Rattle.std.proofs.lemmas.List.{append-nil, append_assoc, map_push, take_more}
 use Rattle.forms.specs.declared.types.Pair.{Pair}
 use Rattle.forms.specs.Spoken.{pair_of}
 use Rattle.forms.specs.Spelling.{spelled_pair, spelled_pairs}
@@ -16,6 +16,3 @@ pub pair_more : (ps : List Pair) (i : ℕ) (d : Pair) → i < length ps → so_f
 pair_more ps i d h =
     spelled_push (map pair_of (take i ps)) (pair_of (get_or ps i d))
     ∙ ap spelled_pairs (sym (map_push pair_of (take i ps) (get_or ps i d)) ∙ ap (map pair_of) (sym (take_more ps i d h)))
-
-pub pairs_all : (ps : List Pair) (i : ℕ) → length ps ≤ i → so_far ps i ≡ spelled_pairs (map pair_of ps)
-pairs_all ps i h = ap (λ qs. spelled_pairs (map pair_of qs)) (take_all i ps h)

@@ -1,5 +1,6 @@
 -- The plain spelling of a form: one blank between words and numbers, none inside a bracket.
-use Rattle.std.specs.Prelude.{ℕ, List, [], ◌∷◌, ◌++◌, codes, decimal}
+use Rattle.std.specs.Prelude.{ℕ, cond, List, [], ◌∷◌, ◌++◌, codes, decimal, Option, Some, None}
+use Rattle.std.specs.Str.{bytes_eq}
 use Rattle.forms.specs.declared.types.MemoryKind.{MemoryKind}
 use Rattle.forms.specs.declared.types.MemoryKind.TheVariants.{Lazy, Through}
 use Rattle.forms.specs.declared.types.BookKind.{BookKind}
@@ -15,6 +16,13 @@ kind_name Through = codes "through"
 abbrev pub book_name : BookKind → List ℕ
 book_name Tally = codes "tally"
 book_name Slots = codes "slots"
+
+-- the kind that a word names
+abbrev pub kind_named : List ℕ → Option MemoryKind
+kind_named w = cond (bytes_eq w (codes "lazy")) (Some Lazy) (cond (bytes_eq w (codes "through")) (Some Through) None)
+
+abbrev pub book_named : List ℕ → Option BookKind
+book_named w = cond (bytes_eq w (codes "tally")) (Some Tally) (cond (bytes_eq w (codes "slots")) (Some Slots) None)
 
 abbrev pub spelled_request : Request → List ℕ
 spelled_request (Add n) = codes "(add " ++ (decimal n ++ codes ")")

@@ -11,10 +11,10 @@ impl fmt::Display for MemoryKind {
     ghost output = { λ k. Some (kind_name k) };
 
     fn fmt<W: fmt::Write>(&self, f: &mut fmt::Formatter<W>) -> fmt::Result {
-        match *self {
-            MemoryKind::Lazy => write!(f, "lazy"),
-            MemoryKind::Through => write!(f, "through"),
-        }
+        f.write_str(match self {
+            MemoryKind::Lazy => "lazy",
+            MemoryKind::Through => "through",
+        })
     }
 }
 
@@ -22,10 +22,10 @@ impl fmt::Display for BookKind {
     ghost output = { λ b. Some (book_name b) };
 
     fn fmt<W: fmt::Write>(&self, f: &mut fmt::Formatter<W>) -> fmt::Result {
-        match *self {
-            BookKind::Tally => write!(f, "tally"),
-            BookKind::Slots => write!(f, "slots"),
-        }
+        f.write_str(match self {
+            BookKind::Tally => "tally",
+            BookKind::Slots => "slots",
+        })
     }
 }
 
@@ -34,24 +34,18 @@ impl fmt::Display for Request {
 
     fn fmt<W: fmt::Write>(&self, f: &mut fmt::Formatter<W>) -> fmt::Result {
         match *self {
-            Request::Add { amount } => {
-                let amount = Decimal(amount);
-                write!(f, "(add {amount})")
-            }
+            Request::Add { amount } => write!(f, "(add {})", Decimal(amount)),
             Request::Read => write!(f, "(read)"),
             Request::Reserve { slot, container } => {
-                let slot = Decimal(u64::from(slot));
-                let container = Decimal(u64::from(container));
-                write!(f, "(reserve {slot} {container})")
+                write!(
+                    f,
+                    "(reserve {} {})",
+                    Decimal(slot.into()),
+                    Decimal(container.into())
+                )
             }
-            Request::Cancel { number } => {
-                let number = Decimal(number);
-                write!(f, "(cancel {number})")
-            }
-            Request::Holder { slot } => {
-                let slot = Decimal(slot);
-                write!(f, "(holder {slot})")
-            }
+            Request::Cancel { number } => write!(f, "(cancel {})", Decimal(number)),
+            Request::Holder { slot } => write!(f, "(holder {})", Decimal(slot)),
         }
     }
 }
@@ -61,9 +55,8 @@ impl fmt::Display for Pair {
     ghost output = { λ p. Some (spelled_pair (pair_of p)) };
 
     fn fmt<W: fmt::Write>(&self, f: &mut fmt::Formatter<W>) -> fmt::Result {
-        let line = Decimal(u64::from(self.line));
-        let kept = Decimal(u64::from(self.kept));
-        write!(f, " ({line} {kept})")
+        let Pair { line, kept } = *self;
+        write!(f, " ({} {})", Decimal(line.into()), Decimal(kept.into()))
     }
 }
 
@@ -83,31 +76,28 @@ impl fmt::Display for Form {
 
     fn fmt<W: fmt::Write>(&self, f: &mut fmt::Formatter<W>) -> fmt::Result {
         match *self {
-            Form::Memory { kind, lines } => {
-                let lines = Decimal(lines);
-                write!(f, "(memory {kind} {lines})")
-            }
+            Form::Memory { kind, lines } => write!(f, "(memory {kind} {})", Decimal(lines)),
             Form::Object { book } => write!(f, "(object {book})"),
             Form::Start => write!(f, "(start)"),
             Form::Rise => write!(f, "(rise)"),
             Form::Call { station, request } => {
-                let station = Decimal(station);
-                write!(f, "(call {station} {request})")
+                write!(f, "(call {} {request})", Decimal(station))
             }
             Form::Steps { station, count } => {
-                let station = Decimal(station);
-                let count = Decimal(count);
-                write!(f, "(steps {station} {count})")
+                write!(f, "(steps {} {})", Decimal(station), Decimal(count))
             }
             Form::Outcome {
                 run,
                 station,
                 number,
             } => {
-                let run = Decimal(run);
-                let station = Decimal(station);
-                let number = Decimal(number);
-                write!(f, "(outcome {run} {station} {number})")
+                write!(
+                    f,
+                    "(outcome {} {} {})",
+                    Decimal(run),
+                    Decimal(station),
+                    Decimal(number)
+                )
             }
             Form::Cut(pairs) => write!(f, "(cut{pairs})"),
         }

@@ -3,6 +3,8 @@
 
 mod display;
 mod meaning;
+mod named;
 mod types;
 
+pub use named::Named;
 pub use types::{BookKind, Form, MemoryKind, Pair, Pairs, Request};

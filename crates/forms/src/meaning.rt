@@ -1,11 +1,9 @@
-ghost use Rattle.std.specs.Prelude.{◌≡◌, ℕ, ◌<◌, map, take, slice_index, slice_set};
+ghost use Rattle.std.specs.Prelude.{◌≡◌, ℕ, ◌+◌, ◌<◌, ◌≤◌, [], ◌∷◌, ◌++◌, map, slice_index, slice_set};
 ghost use Rattle.forms.specs.Meanings.{book_of, op_of, kept_of};
 ghost use Rattle.forms.specs.Spoken.{pair_of, pairs_in};
 
 use super::types::{BookKind, Pair, Pairs, Request};
-use book::Op;
-
-const SLOT_UNIT: u64 = 4_294_967_296;
+use book::{Op, SlotsRequest, TallyRequest};
 
 impl Request {
     // The object that the request is one of.
@@ -18,24 +16,20 @@ impl Request {
                 BookKind::Slots,
         }
     }
+}
 
-    // The operation that stands for the request.
-    pub fn op(self) -> Op
-        ensures { result ≡ op_of self }
-    {
-        match self {
-            Request::Add { amount } => Op {
-                code: 1,
-                argument: amount,
-            },
-            Request::Read => Op {
-                code: 2,
-                argument: 0,
-            },
-            Request::Reserve { slot, container } => Op {
-                code: 1,
-                argument: u64::from(slot) * SLOT_UNIT + u64::from(container),
-            },
+// The operation that stands for a request.
+impl From<Request> for Op {
+    ghost from_gives = { λ q o. o ≡ op_of q };
+
+    fn from(request: Request) -> Self {
+        match request {
+            Request::Add { amount } => TallyRequest::Add { amount }.into(),
+            Request::Read => TallyRequest::Read.into(),
+            Request::Reserve { slot, container } => {
+                let reserve = SlotsRequest::Reserve { slot, container };
+                reserve.into()
+            }
             Request::Cancel { number } => Op {
                 code: 2,
                 argument: number,
@@ -68,19 +62,35 @@ fn kept_by(pairs: &[Pair]) -> [u8; 129]
     bytes
 }
 
-// The first `count` pairs, or all if there are fewer.
-fn first(pairs: &[Pair], count: usize) -> &[Pair]
-    ensures { result.now ≡ take count pairs.now }
-{
-    &pairs[0..count.min(pairs.len())]
-}
-
 impl Pairs {
+    // No pairs yet.
+    pub fn new() -> Self
+        ensures count { result.count ≡ 0 }
+        ensures pairs { pairs_in result ≡ [] }
+    {
+        Pairs {
+            pairs: [Pair { line: 0, kept: 0 }; 16],
+            count: 0,
+        }
+    }
+
+    // One pair more, behind the others; where there are 16, they stay as they are.
+    pub fn push(&mut self, pair: Pair)
+        ensures count { self.old.count < 16 → self.new.count ≡ self.old.count + 1 }
+        ensures pairs { self.old.count < 16 → pairs_in self.new ≡ pairs_in self.old ++ pair_of pair ∷ [] }
+        ensures full { 16 ≤ self.old.count → self.new ≡ self.old }
+    {
+        if self.count < self.pairs.len() {
+            self.pairs[self.count] = pair;
+            self.count += 1;
+        }
+    }
+
     // The pairs that there are.
     pub fn listed(&self) -> &[Pair]
         ensures { map pair_of result.now ≡ pairs_in self.now }
     {
-        first(&self.pairs, self.count)
+        &self.pairs[..self.count.min(self.pairs.len())]
     }
 
     // For each line from 0 to 128 what its last pair keeps, and 0 where it has none.

@@ -1,92 +1,80 @@
-// Entries: whether one stands at a line of the memory, and which.
-ghost use Rattle.std.specs.Prelude.{◌≡◌, ℕ, ◌<◌, ◌≤◌, ◌&&◌, length, is_some, MatchOption};
-ghost use Rattle.model.specs.Journal.{word, lines_fit, begins, stands};
-ghost use Rattle.journal.specs.Reading.{span, Front, Ended, Heads};
+// Entries: whether one stands at the front of some lines, and which stand there one behind the other.
+ghost use Rattle.std.specs.Prelude.{◌≡◌, ℕ, suc, ◌+◌, ◌&&◌, [], ◌∷◌, take, is_some, IfSome};
+ghost use Rattle.std.specs.Iterator.{YieldsFirstBy, item_count};
+ghost use Rattle.model.specs.Journal.{word, lines_fit, stands, entries};
+ghost use Rattle.journal.specs.Reading.{span, entry};
 
 use super::lines::{begins, line_fits};
-use super::types::{Found, Log};
+use super::parts::Part;
 use memory::Memory;
 
-// The line `at`, the first of those from there up to `end`.
-pub(crate) fn line_at<M: Memory>(memory: &M, at: usize, end: usize) -> [u64; 8]
-    requires at_lt_end { at < end }
-    requires end_in_bounds { end ≤ length (M.Memory.model memory.now).lines }
-    ensures { Heads (M.Memory.model memory.now) at end result }
-{
-    memory.load_line(at)
+// An entry in a log: the place that it stands for, and its lines.
+#[derive(Drop)]
+pub(crate) struct Found<'a, M: Memory> {
+    pub(crate) place: u64,
+    pub(crate) lines: Part<'a, M>,
 }
 
-// The lines from `at` on are those of an entry that begins with the line `head`.
-fn lines_fit<M: Memory>(memory: &M, head: [u64; 8], at: usize, end: usize) -> bool
-    requires at_le_end { at ≤ end }
-    requires end_in_bounds { end ≤ length (M.Memory.model memory.now).lines }
-    ensures { result ≡ lines_fit (word head 1) (word head 0) (word head 1) (word head 7) 0 (span (M.Memory.model memory.now) at end) }
+// The entries of `owner` that stand one behind the other at the front of these lines.
+#[derive(Drop)]
+pub(crate) struct Entries<'a, M: Memory> {
+    pub(crate) owner: u64,
+    pub(crate) lines: Part<'a, M>,
+}
+
+// Takes the next line, and tells whether it is line t of an entry whose first line is `head`.
+fn next_fits<M: Memory>(lines: &mut Part<M>, head: [u64; 8], t: u64) -> bool
+    ensures { (n : ℕ) → lines_fit (suc n) (word head 0) (word head 1) (word head 7) t lines.old ≡ (result && lines_fit n (word head 0) (word head 1) (word head 7) (t + 1) lines.new) }
 {
-    let mut next = at;
+    let Some(line) = lines.next() else {
+        return false;
+    };
+    line_fits(line, head[0], head[1], head[7], t)
+}
+
+// These lines begin with those of an entry whose first line is `head`.
+#[tactic(auto, using(crate::proofs::Fitting::one_less))]
+fn lines_fit<M: Memory>(mut lines: Part<M>, head: [u64; 8]) -> bool
+    ensures { result ≡ lines_fit (word head 1) (word head 0) (word head 1) (word head 7) 0 lines.entry }
+{
     for t in 0..head[1] {
-        if next >= end {
+        if !next_fits(&mut lines, head, t) {
             return false;
         }
-        let line = line_at(memory, next, end);
-        if !line_fits(line, head[0], head[1], head[7], t) {
-            return false;
-        }
-        next += 1;
     }
     true
 }
 
-// The lines from `at` on begin with an entry of `owner`, where `head` is the first of them.
-fn begins_with_entry<M: Memory>(
-    memory: &M,
-    owner: u64,
-    head: [u64; 8],
-    at: usize,
-    end: usize,
-) -> bool
-    requires at_le_end { at ≤ end }
-    requires end_in_bounds { end ≤ length (M.Memory.model memory.now).lines }
-    ensures { result ≡ (begins owner head && lines_fit (word head 1) (word head 0) (word head 1) (word head 7) 0 (span (M.Memory.model memory.now) at end)) }
+// The first of these lines, where an entry of `owner` stands there.
+fn head_of<M: Memory>(lines: &Part<M>, owner: u64) -> Option<[u64; 8]>
+    ensures stood { is_some result ≡ stands owner lines.now }
+    ensures head { IfSome result (λ l. take 1 lines.now ≡ l ∷ []) }
 {
-    begins(owner, head) && lines_fit(memory, head, at, end)
+    let head = lines.again().next()?;
+    (begins(owner, head) && lines_fit(lines.again(), head)).then_some(head)
 }
 
-// The entry that stands at a line of a log.
-pub(crate) fn entry_at<M: Memory>(memory: &M, log: Log, at: usize) -> Option<Found>
-    requires { log.end ≤ length (M.Memory.model memory.now).lines }
-    ensures stood { is_some result ≡ stands log.owner (span (M.Memory.model memory.now) at log.end) }
-    ensures reads { MatchOption result (Ended (M.Memory.model memory.now) log.owner at log.end) (Front (M.Memory.model memory.now) log.owner at log.end) }
-{
-    if at >= log.end {
-        return None;
-    }
-    let head = line_at(memory, at, log.end);
-    if !begins_with_entry(memory, log.owner, head, at, log.end) {
-        return None;
-    }
-    Some(Found {
-        place: head[0],
-        first: at,
-        end: at + head[1] as usize,
-    })
-}
+impl<'a, M: Memory> Iterator for Entries<'a, M> {
+    type Item = Found<'a, M>;
 
-// The end of a part of the memory, which is at most the memory's own.
-fn end_within<M: Memory>(memory: &M, end: usize) -> usize
-    ensures inside { result ≤ length (M.Memory.model memory.now).lines }
-    ensures same { (at : ℕ) → span (M.Memory.model memory.now) at result ≡ span (M.Memory.model memory.now) at end }
-{
-    end.min(memory.line_count())
+    ghost next_gives = { YieldsFirstBy (λ found. entry found.place found.lines) (λ log. entries log.owner 0 log.lines) };
+
+    ghost remaining = { item_count (λ log. entries log.owner 0 log.lines) };
+
+    #[tactic(auto, using(crate::proofs::Fitting::entries_front))]
+    fn next(&mut self) -> Option<Found<'a, M>> {
+        let head = head_of(&self.lines, self.owner)?;
+        Some(Found {
+            place: head[0],
+            lines: self.lines.split_front(head[1] as usize),
+        })
+    }
 }
 
 // An entry of `owner` stands at a line, where the log ends before the line `end`.
 pub fn stands<M: Memory>(memory: &M, owner: u64, at: usize, end: usize) -> bool
     ensures { result ≡ stands owner (span (M.Memory.model memory.now) at end) }
 {
-    let log = Log {
-        owner,
-        first: at,
-        end: end_within(memory, end),
-    };
-    entry_at(memory, log, at).is_some()
+    let lines = Part::starting_at(memory, at).split_front(end.saturating_sub(at));
+    head_of(&lines, owner).is_some()
 }

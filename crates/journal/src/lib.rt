@@ -8,8 +8,8 @@ mod entries;
 mod limits;
 mod lines;
 mod logs;
+mod parts;
 mod places;
-mod types;
 
 pub use entries::stands;
 pub use lines::{entry_line, update_in};

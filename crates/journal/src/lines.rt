@@ -40,7 +40,7 @@ pub fn update_in(line: [u64; 8]) -> Update
 fn identity_fits(line: [u64; 8]) -> bool
     ensures { result ≡ (within 1 (word line 3) station_count && within 1 (word line 4) max_place) }
 {
-    1 <= line[3] && line[3] <= STATIONS && 1 <= line[4] && line[4] <= MAX_PLACE
+    (1..=STATIONS).contains(&line[3]) && (1..=MAX_PLACE).contains(&line[4])
 }
 
 // A line is line t of an entry for `place` that has this many lines and this mark.
@@ -59,17 +59,15 @@ pub(crate) fn line_fits(line: [u64; 8], place: u64, lines: u64, mark: u64, t: u6
 pub(crate) fn begins(owner: u64, line: [u64; 8]) -> bool
     ensures { result ≡ begins owner line }
 {
-    1 <= line[1]
-        && line[1] <= MAX_LINES
+    (1..=MAX_LINES).contains(&line[1])
         && line[0] <= MAX_PLACE
         && line[3] == owner
-        && 1 <= line[7]
-        && line[7] <= MAX_RUN
+        && (1..=MAX_RUN).contains(&line[7])
 }
 
 // Two lines carry the same update with the same identity.
 pub(crate) fn same_update(a: [u64; 8], b: [u64; 8]) -> bool
     ensures { result ≡ same_update a b }
 {
-    a[3] == b[3] && a[4] == b[4] && a[5] == b[5] && a[6] == b[6] && a[7] == b[7]
+    update_in(a) == update_in(b)
 }

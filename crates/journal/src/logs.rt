@@ -1,11 +1,10 @@
 // The logs of the stations, and what is read from one or all of them.
-ghost use Rattle.std.specs.Prelude.{◌≡◌, ◌+◌, ◌-◌, ◌*◌, ◌^◌, ◌≤◌, min, [], length};
-ghost use Rattle.model.specs.Journal.{log_length, log_start, log_of, log_entries, used_lines, top, tops, last_place, station_count};
-ghost use Rattle.journal.specs.Reading.{span, logs_from, Listed};
+ghost use Rattle.std.specs.Prelude.{◌≡◌, ◌+◌, ◌-◌, ◌*◌, ◌^◌, ◌<◌, ◌≤◌, min, max, length, fold};
+ghost use Rattle.model.specs.Journal.{log_length, log_start, entries, log_entries, used_lines, last_place, station_count};
 
-use super::entries::entry_at;
+use super::entries::Entries;
 use super::limits::STATIONS;
-use super::types::Log;
+use super::parts::Part;
 use memory::Memory;
 
 // How many lines each log has.
@@ -24,6 +23,7 @@ fn start_of(length: usize, station: u64) -> usize
 }
 
 // The first line of a station's log. Past the eighth station it is at most the number of lines.
+#[tactic(auto, using(crate::proofs::Marking::start_is))]
 pub fn log_start<M: Memory>(memory: &M, station: u64) -> usize
     ensures value { result ≡ min (log_start (log_length (M.Memory.model memory.now)) station) (length (M.Memory.model memory.now).lines) }
     ensures exact { station ≤ station_count → 1 ≤ length (M.Memory.model memory.now).lines → result ≡ log_start (log_length (M.Memory.model memory.now)) station }
@@ -31,66 +31,48 @@ pub fn log_start<M: Memory>(memory: &M, station: u64) -> usize
     start_of(log_length(memory), station).min(memory.line_count())
 }
 
-// The log of a station.
-pub(crate) fn log_of<M: Memory>(memory: &M, station: u64) -> Log
-    ensures owner { result.owner ≡ station }
-    ensures inside { result.end ≤ length (M.Memory.model memory.now).lines }
-    ensures ordered { result.first ≤ result.end }
-    ensures lines { span (M.Memory.model memory.now) result.first result.end ≡ log_of (M.Memory.model memory.now) (log_length (M.Memory.model memory.now)) station }
-    ensures listed { 1 ≤ station → station ≤ station_count → Listed (M.Memory.model memory.now) station result.first result.end }
+// The entries of a station's log.
+#[tactic(auto, using(crate::proofs::Marking::log_is))]
+pub(crate) fn log_entries<M: Memory>(memory: &M, station: u64) -> Entries<'_, M>
+    ensures read { entries result.owner 0 result.lines ≡ log_entries (M.Memory.model memory.now) station }
+    ensures short { length result.lines < 2 ^ 64 }
 {
-    let first = log_start(memory, station);
-    let end = first.saturating_add(log_length(memory));
-    Log {
+    let mut lines = Part::starting_at(memory, log_start(memory, station));
+    Entries {
         owner: station,
-        first,
-        end: end.min(memory.line_count()),
+        lines: lines.split_front(log_length(memory)),
     }
 }
 
 // How many lines of a station's log its entries use; the lines behind them are free.
+#[tactic(auto, using(crate::proofs::Counting::used_within))]
 pub fn used_lines<M: Memory>(memory: &M, station: u64) -> usize
     ensures { result ≡ used_lines (log_entries (M.Memory.model memory.now) station) }
 {
-    let log = log_of(memory, station);
-    let mut at = log.first;
-    while let Some(entry) = entry_at(memory, log, at) {
-        at = entry.end;
+    let mut used = 0;
+    for entry in log_entries(memory, station) {
+        used += entry.lines.len();
     }
-    at - log.first
+    used
 }
 
 // How many entries a station's log has.
+#[tactic(auto, using(crate::proofs::Counting::count_within))]
 pub fn entry_count<M: Memory>(memory: &M, station: u64) -> usize
     ensures { result ≡ length (log_entries (M.Memory.model memory.now) station) }
 {
-    let log = log_of(memory, station);
-    let mut at = log.first;
-    let mut count = 0;
-    while let Some(entry) = entry_at(memory, log, at) {
-        at = entry.end;
-        count += 1;
-    }
-    count
+    log_entries(memory, station).count()
 }
 
 // The greatest of `least` and the places that the entries of a station's log stand for.
 fn greatest_place<M: Memory>(memory: &M, station: u64, least: u64) -> u64
-    ensures value { result ≡ top least (log_entries (M.Memory.model memory.now) station) }
-    ensures onward { 1 ≤ station → station ≤ station_count → tops least (logs_from (M.Memory.model memory.now) station) ≡ tops result (logs_from (M.Memory.model memory.now) (station + 1)) }
-    ensures last { 1 ≤ station → station ≡ station_count → logs_from (M.Memory.model memory.now) (station + 1) ≡ [] }
+    ensures { result ≡ fold (λ n f. max n f.place) least (log_entries (M.Memory.model memory.now) station) }
 {
-    let log = log_of(memory, station);
-    let mut at = log.first;
-    let mut greatest = least;
-    while let Some(entry) = entry_at(memory, log, at) {
-        at = entry.end;
-        greatest = greatest.max(entry.place);
-    }
-    greatest
+    log_entries(memory, station).fold(least, |greatest, entry| greatest.max(entry.place))
 }
 
 // The greatest place that an entry of any log stands for, 0 where there is none.
+#[tactic(auto, using(crate::proofs::Marking::logs_more))]
 pub fn last_place<M: Memory>(memory: &M) -> u64
     ensures { result ≡ last_place (M.Memory.model memory.now) }
 {

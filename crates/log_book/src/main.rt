@@ -4,6 +4,7 @@
 mod laying;
 mod report;
 
+use book::TallyRequest;
 use laying::lay;
 use memory::{Lazy, LineRec, Memory};
 use model::Update;
@@ -18,10 +19,7 @@ fn adds(station: u64, n: u64) -> Update {
         run: 1,
         station,
         call: 1,
-        op: book::Op {
-            code: 1,
-            argument: n,
-        },
+        op: TallyRequest::Add { amount: n }.into(),
     }
 }
 

@@ -1,6 +1,27 @@
+use book::Op;
 use journal::{entry_count, find_place, last_place, update_in, used_lines};
 use memory::Memory;
-use std::io;
+use model::Update;
+use std::{fmt, io};
+
+// An update as the report tells it.
+#[derive(Drop)]
+struct Told(Update);
+
+impl fmt::Display for Told {
+    fn fmt<W: fmt::Write>(&self, f: &mut fmt::Formatter<W>) -> fmt::Result {
+        let Update {
+            run,
+            station,
+            call,
+            op: Op { code, argument },
+        } = self.0;
+        write!(
+            f,
+            "run {run}, station {station}, call {call}, code {code}, argument {argument}"
+        )
+    }
+}
 
 // What each log holds.
 pub(super) fn logs<M: Memory>(rt: &impl Print, memory: &M) -> io::Result<()> {
@@ -18,17 +39,7 @@ pub(super) fn places<M: Memory>(rt: &impl Print, memory: &M) -> io::Result<()> {
     println!(rt; "the greatest place is {last}")?;
     for place in 1..=last {
         match find_place(memory, place) {
-            Some(line) => {
-                let update = update_in(line);
-                let run = update.run;
-                let station = update.station;
-                let call = update.call;
-                let code = update.op.code;
-                let argument = update.op.argument;
-                println!(rt;
-                    "place {place}: run {run}, station {station}, call {call}, code {code}, argument {argument}"
-                )?;
-            }
+            Some(line) => println!(rt; "place {place}: {}", Told(update_in(line)))?,
             None => println!(rt; "place {place}: missing")?,
         }
     }

@@ -1,9 +1,9 @@
 -- The lazy memory as a whole: what one record's change makes of it.
-use Rattle.std.proofs.Common.{◌≡◌, ℕ, ◌<◌, ◌≤◌, true, false, ltb, List, [], ◌∷◌, map, length, get_or, set, sym, refl, ap, ◌∙◌, ap₂, arith}
+use Rattle.std.proofs.Common.{◌≡◌, ℕ, ◌<◌, true, ltb, List, [], ◌∷◌, map, length, get_or, set, replicate, zero, suc, sym, refl, ap, ◌∙◌, ap₂, arith}
 use Rattle.std.specs.List.{AllByRecursion}
-use Rattle.std.proofs.lemmas.List.{length-map, map-set, get_or_past}
-use Rattle.std.proofs.lemmas.Bool.{cond-true, cond-false, lt-ltb, le-ltb, and_from, and_left}
-use Rattle.memory.specs.Model.{Line, blank_line, words_of, settle, each, early, chosen, push_store, pushed, stored, ask, marked, written_back, fence_line}
+use Rattle.std.proofs.lemmas.List.{length-map, map-set}
+use Rattle.std.proofs.lemmas.Bool.{cond-true, lt-ltb, and_from}
+use Rattle.memory.specs.Model.{Line, blank_line, settle, each, early, chosen, push_store, pushed, stored, ask, marked, written_back, fence_line}
 use Rattle.memory.specs.Lazy.{line_of, lazy_mem, pending_length, early_count}
 use Rattle.memory.specs.declared.types.LineRec.{LineRec}
 use Rattle.memory.proofs.Each.{Stays, one_settles}
@@ -24,6 +24,10 @@ all_stay : (rs : List LineRec) → AllByRecursion (Stays early_count) (map line_
 all_stay [] = tt
 all_stay (r ∷ rs) = (stays r, all_stay rs)
 
+pub blanked : (n : ℕ) (r : LineRec) → line_of r ≡ blank_line → map line_of (replicate n r) ≡ replicate n blank_line
+blanked zero r e = refl
+blanked (suc n) r e = ap₂ (λ (x : Line) (xs : List Line). x ∷ xs) e (blanked n r e)
+
 -- a fence settles just what was asked for
 pub fence_calm : (rs : List LineRec) → each fence_line [] (map line_of rs) ≡ each fence_line (map early_count (map line_of rs)) (map line_of rs)
 fence_calm [] = refl
@@ -39,29 +43,14 @@ module _ (rs : List LineRec) (n l : ℕ) where
   within : l < length rs → ltb l (length (map line_of rs)) ≡ true
   within h = lt-ltb l _ (rw (length-map rs line_of) h)
 
-  absent : length rs ≤ l → ltb l (length (map line_of rs)) ≡ false
-  absent h = le-ltb l _ (rw (length-map rs line_of) h)
-
-  pub words_there : (r : LineRec) → l < length rs → r ≡ get_or rs l r → words_of (line_of r) ≡ words_of here
-  words_there r h found = ap words_of (ap line_of found ∙ line_read rs l r h)
-
-  pub words_absent : length rs ≤ l → words_of blank_line ≡ words_of here
-  words_absent h = ap words_of (sym (get_or_past (map line_of rs) l blank_line (rw (length-map rs line_of) h)))
-
   pub stored_there : (w v : ℕ) (r s : LineRec) → w < 8 → l < length rs → line_of s ≡ settle (early_count (push_store (line_of (get_or rs l r)) w v)) (push_store (line_of (get_or rs l r)) w v) →
       lazy_mem (set rs l s) n ≡ stored (chosen early_count (pushed (lazy_mem rs n) l w v)) (lazy_mem rs n) l w v
   stored_there w v r s small h left =
       changed s (push_store here w v) (left ∙ ap (λ (x : Line). settle (early_count (push_store x w v)) (push_store x w v)) (line_read rs l r h))
       ∙ sym (cond-true _ _ _ (and_from _ _ (within h) (lt-ltb w 8 small)))
 
-  pub stored_absent : (w v : ℕ) → length rs ≤ l → lazy_mem rs n ≡ stored (chosen early_count (pushed (lazy_mem rs n) l w v)) (lazy_mem rs n) l w v
-  stored_absent w v h = sym (cond-false _ _ _ (and_left _ (ltb w 8) (absent h)))
-
   pub asked_there : (r s : LineRec) → l < length rs → line_of s ≡ ask (line_of (get_or rs l r)) →
       lazy_mem (set rs l s) n ≡ written_back (chosen early_count (marked (lazy_mem rs n) l)) (lazy_mem rs n) l
   asked_there r s h left =
       changed s (ask here) (left ∙ asks (get_or rs l r) ∙ ap (λ (x : Line). settle (early_count (ask x)) (ask x)) (line_read rs l r h))
       ∙ sym (cond-true _ _ _ (within h))
-
-  pub asked_absent : length rs ≤ l → lazy_mem rs n ≡ written_back (chosen early_count (marked (lazy_mem rs n) l)) (lazy_mem rs n) l
-  asked_absent h = sym (cond-false _ _ _ (absent h))

@@ -1,3 +1,4 @@
+pub mod Absent
 pub mod Each
 pub mod Settling
 pub mod Acts

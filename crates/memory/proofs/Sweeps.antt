@@ -1,5 +1,5 @@
 -- A loop that goes through the lines once and makes of each what f does, with the line's own number.
-use Rattle.std.proofs.Common.{◌≡◌, ℕ, ◌+◌, ◌<◌, ◌≤◌, List, [], ◌∷◌, ◌++◌, map, length, get_or, take, drop, set, replicate, sym, refl, ap, ◌∙◌, ap₂, arith, length-set}
+use Rattle.std.proofs.Common.{◌≡◌, ℕ, ◌+◌, ◌<◌, ◌≤◌, List, [], ◌∷◌, ◌++◌, map, length, get_or, take, drop, set, sym, ap, ◌∙◌, ap₂, arith, length-set}
 use Rattle.std.proofs.lemmas.List.{take_all, take_more, take_more_set, drop-drop, drop-set-lt, get_or-drop, length-map, map-set, get_or-map}
 use Rattle.memory.specs.Model.{Line, blank_line, each}
 use Rattle.memory.specs.Lazy.{line_of}
@@ -20,9 +20,6 @@ pub line_read : (rs : List LineRec) (i : ℕ) (r : LineRec) → i < length rs �
 line_read rs i r h = sym (get_or-map line_of rs i r blank_line h)
 
 module _ (f : ℕ → Line → Line) (ns : List ℕ) (olds : List LineRec) where
-  pub swept_none : Swept f ns olds 0 olds
-  swept_none = record { long = refl; done = refl; rest = refl }
-
   -- the loop leaves s at i
   pub swept_more : (i : ℕ) (news : List LineRec) → Swept f ns olds i news → i < length olds → (r s : LineRec) → line_of s ≡ f (get_or ns i 0) (line_of (get_or news i r)) →
       Swept f ns olds (i + 1) (set news i s)
@@ -49,7 +46,3 @@ module _ (f : ℕ → Line → Line) (ns : List ℕ) (olds : List LineRec) where
   swept_all i news w h =
       sym (take_all i (map line_of news) (rw (length-map news line_of) (omega (arith, w.long))))
       ∙ w.done ∙ take_all i (each f ns (map line_of olds)) (rw (length_each f ns (map line_of olds), length-map olds line_of) h)
-
-pub each_blank : (rs : List LineRec) → each (λ _ _. blank_line) [] (map line_of rs) ≡ replicate (length rs) blank_line
-each_blank [] = refl
-each_blank (r ∷ rs) = ap (λ (xs : List Line). blank_line ∷ xs) (each_blank rs)

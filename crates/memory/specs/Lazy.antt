@@ -1,10 +1,10 @@
--- The lazy memory: what its records stand for, and what it chooses where a memory is free.
+-- The lazy memory: what its records stand for, and what settles early.
 use Rattle.std.specs.Prelude.{◌≡◌, ℕ, ◌<◌, cond, List, [], ◌∷◌, map, length, take, nat_lt}
 use Rattle.std.proofs.Common.{arith}
 use Rattle.std.specs.List.{AllByRecursion}
 use Rattle.std.proofs.ByRecursion.{all_from_every, All-take}
 use Rattle.std.proofs.lemmas.List.{length-take-le}
-use Rattle.memory.specs.Model.{Line, Mem, Freedom, WholeLine, chosen}
+use Rattle.memory.specs.Model.{Line, Mem, WholeLine}
 use Rattle.memory.specs.declared.types.LineRec.{LineRec}
 
 abbrev pub line_of : LineRec → Line
@@ -34,7 +34,3 @@ lazy_whole (r ∷ rs) = (line_whole r, lazy_whole rs)
 -- the oldest store settles early where a line has come to have seventeen, and nothing else does
 abbrev pub early_count : Line → ℕ
 early_count x = cond (nat_lt 16 (length x.pending)) 1 0
-
--- nothing is free: a cut keeps of line l as many stores as byte l says
-abbrev pub lazy_freedom : Freedom
-lazy_freedom = record { early_by = λ m ns. ns ≡ chosen early_count m; kept_by = λ m bytes ns. ns ≡ bytes }

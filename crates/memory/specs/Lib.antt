@@ -1,4 +1,5 @@
 pub mod Model
+pub mod Cells
 pub mod Laws
 pub mod Lazy
 pub mod Through

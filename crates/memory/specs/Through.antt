@@ -1,9 +1,9 @@
 -- The memory that writes through: the words of its caller, eight a line, each store settled at once.
-use Rattle.std.specs.Prelude.{◌≡◌, ℕ, zero, suc, ◌*◌, ◌/◌, ◌≤◌, List, [], ◌∷◌, length, take, drop}
+use Rattle.std.specs.Prelude.{ℕ, zero, suc, ◌*◌, ◌/◌, ◌≤◌, List, [], ◌∷◌, length, take, drop}
 use Rattle.std.proofs.Common.{arith}
 use Rattle.std.specs.List.{AllByRecursion}
 use Rattle.std.proofs.lemmas.List.{length-take-le, length-drop}
-use Rattle.memory.specs.Model.{Line, Mem, settled_line, Freedom, WholeLine, chosen}
+use Rattle.memory.specs.Model.{Line, Mem, settled_line, WholeLine}
 
 -- the first n lines of words
 abbrev pub lines_of : ℕ → List ℕ → List Line
@@ -23,10 +23,6 @@ rest_of ws = drop (8 * (length ws / 8)) ws
 -- every store settles at once
 abbrev pub all_pending : Line → ℕ
 all_pending x = length x.pending
-
--- nothing is free: at a cut nothing is pending
-abbrev pub through_freedom : Freedom
-through_freedom = record { early_by = λ m ns. ns ≡ chosen all_pending m; kept_by = λ m bytes ns. ns ≡ [] }
 
 lines_whole : (n : ℕ) (ws : List ℕ) → 8 * n ≤ length ws → AllByRecursion WholeLine (lines_of n ws)
 lines_whole zero ws h = tt

@@ -6,16 +6,24 @@ ghost use Rattle.std.specs.Prelude.{◌≡◌, ℕ, List, length};
 ghost use Rattle.memory.specs.Model.{Mem, Freedom, Whole, loaded, loaded_line, pushed, stored, marked, written_back, fenced, cut};
 ghost use Rattle.memory.specs.Laws.{SettlesInOrder};
 
+mod cell;
 mod lazy;
+mod lent;
 mod line;
 #[cfg(test)]
 mod tests;
 mod through;
 mod types;
 
-pub use lazy::Lazy;
-pub use through::Through;
+pub use cell::Cell;
+pub use lent::Lent;
 pub use types::{LineRec, Store};
+
+// A memory on records. It settles a store early only where a seventeenth comes to a line.
+pub type Lazy<'a> = Lent<'a, LineRec>;
+
+// A memory on words, eight a line. Each store settles at once; words past the last whole line are left alone.
+pub type Through<'a> = Lent<'a, u64>;
 
 pub trait Memory {
     // The lines and the count of fences.

@@ -18,13 +18,6 @@ fn made(mut words: [u64; 8], stores: &[Store]) -> [u64; 8]
     words
 }
 
-// One of eight words, or 0 past them.
-pub(crate) fn word_in(words: [u64; 8], word: usize) -> u64
-    ensures { result ≡ slice_index words word }
-{
-    if word < 8 { words[word] } else { 0 }
-}
-
 impl LineRec {
     // A line with these words settled, and nothing pending.
     pub fn new(settled: [u64; 8]) -> Self
@@ -39,11 +32,12 @@ impl LineRec {
     }
 
     // The settled words with the n oldest stores made on them.
+    #[tactic(auto, using(crate::proofs::Records::some_within))]
     fn made_first(&self, n: usize) -> [u64; 8]
         requires { n ≤ self.now.count }
         ensures { result ≡ written self.now.settled (take n self.now.stores) }
     {
-        made(self.settled, &self.stores[0..n])
+        made(self.settled, &self.stores[..n])
     }
 
     // The words as a load gives them.
@@ -54,6 +48,7 @@ impl LineRec {
     }
 
     // The line once its n oldest stores have settled.
+    #[tactic(auto, using(crate::proofs::Records::settles))]
     fn settle(self, n: usize) -> LineRec
         requires { n ≤ self.count }
         ensures line { line_of result ≡ settle n (line_of self) }
@@ -107,6 +102,7 @@ impl LineRec {
     }
 
     // The settled words with the n oldest stores made on them, or all if there are fewer.
+    #[tactic(auto, using(crate::proofs::Records::made_first))]
     fn words_after(&self, n: u8) -> [u64; 8]
         ensures { result ≡ (cut_line n (line_of self.now)).settled }
     {

@@ -1,7 +1,5 @@
-use super::Memory;
-use super::lazy::Lazy;
-use super::through::Through;
 use super::types::LineRec;
+use super::{Lazy, Memory, Through};
 
 fn line() -> LineRec {
     LineRec::new([0; 8])
@@ -79,7 +77,7 @@ fn lazy_absent_lines_and_words(rt: HostRuntime) {
 fn the_fence_count_goes_round(rt: HostRuntime) {
     let mut lines = [line(); 0];
     let mut memory = Lazy {
-        lines: &mut lines,
+        cells: &mut lines,
         fences: u32::MAX,
     };
     memory.fence();

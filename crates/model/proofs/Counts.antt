@@ -1,5 +1,5 @@
 -- How many: places, calls and identities.
-use Rattle.std.proofs.Common.{◌≡◌, ℕ, zero, suc, pred, ◌+◌, ◌*◌, ◌<◌, ◌≤◌, eqb, List, [], ◌∷◌, ◌++◌, length, get_or, set, Result, sym, refl, ap, ◌∙◌, inl, inr, arith}
+use Rattle.std.proofs.Common.{◌≡◌, ℕ, zero, suc, pred, ◌+◌, ◌*◌, ◌<◌, ◌≤◌, eqb, List, [], ◌∷◌, ◌++◌, length, get_or, set, Result, sym, refl, ap, ◌∙◌, inl, inr, arith, Option}
 use Rattle.std.proofs.lemmas.List.{length-set, length_push, get_or_push}
 use Rattle.std.proofs.lemmas.Bool.{cases_lt, cases_eq, cond_both}
 use Rattle.book.specs.declared.types.Op.{Op}
@@ -18,7 +18,7 @@ use Rattle.model.specs.declared.types.Call.{Call}
 use Rattle.model.specs.declared.types.Call.TheVariants as calls
 use Rattle.model.specs.declared.types.Station.{Station}
 use Rattle.model.specs.declared.types.Refusal.{Refusal}
-use Rattle.model.specs.declared.types.Stepped.{Stepped}
+use Rattle.model.specs.declared.types.Replied.{Replied}
 use Rattle.model.proofs.Sound.{station_of, station_here, station_other, each_station, own_update, update_of}
 use Rattle.model.proofs.Moves.{grown_push, unflagged, grown_flag}
 use Rattle.model.proofs.Steps.{SoundAt, StandsAt, stands_at, stepping_cases}
@@ -127,7 +127,7 @@ pub step_counts : {S : Type 0} (r : Machine S) (s : ℕ) (l : Ledger) → SoundA
     CountsAt r.number (stepping r s).machine
 step_counts {S} r s l z y = stepping_cases r s P (λ q. y) (λ u a m. go a m (station_at r s).call refl)
   where
-    P : Doing S (Result Stepped Refusal) → Type 0
+    P : Doing S (Result (Option Replied) Refusal) → Type 0
     P d = CountsAt r.number d.machine
 
     kept : 1 ≤ s → s ≤ station_count → (o' : List Node) (x' : Station) → length o' ≡ length r.order →

@@ -11,7 +11,7 @@ use Rattle.model.specs.Law as law
 use Rattle.model.specs.Law.{state_at, update_at, reply_of, holds_number}
 use Rattle.model.specs.declared.types.Update.{Update}
 use Rattle.model.specs.declared.types.Refusal.{Refusal}
-use Rattle.model.specs.declared.types.Stepped.{Stepped}
+use Rattle.model.specs.declared.types.Replied.{Replied}
 use Rattle.model.proofs.Replies.{RightReply, RightDone}
 
 -- Moments that came
@@ -120,7 +120,7 @@ goes_waiting : (l : Ledger) (s : ℕ) (w : Option Waiting) → Continues l (step
 goes_waiting l s None = goes_same refl refl
 goes_waiting l s (Some w) = goes_noting l s w.update w.noted
 
-pub goes_step : (l : Ledger) (s : ℕ) (a : Result Stepped Refusal) (b : ℕ) → Continues l (fed l (stepped s a b))
+pub goes_step : (l : Ledger) (s : ℕ) (a : Result (Option Replied) Refusal) (b : ℕ) → Continues l (fed l (stepped s a b))
 goes_step l s (Ok a) b = goes_waiting l s (get_or l.waiting (pred s) None)
 goes_step l s (Err q) b = goes_same refl refl
 

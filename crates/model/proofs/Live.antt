@@ -7,15 +7,14 @@ use Rattle.book.specs.declared.types.Op.{Op}
 use Rattle.book.specs.declared.types.Sort.TheVariants as sorts
 use Rattle.book.specs.Rules.{Rules}
 use Rattle.model.specs.Machine as machine
-use Rattle.model.specs.Machine.{Machine, Doing, with_state, left, no_update, station_at, called_station, calling, state_after, reply_at, stepping, highest_flag, place_of, telling}
+use Rattle.model.specs.Machine.{done_at, Machine, Doing, with_state, left, no_update, station_at, called_station, calling, state_after, reply_at, stepping, highest_flag, place_of, telling, reply_given}
 use Rattle.model.specs.History.{Moment, paid, Came, ledger, updates, found_count, Made}
 use Rattle.model.specs.History.Moment.{started, risen, called, stepped, told, cut}
 use Rattle.model.specs.Law.{holds_number, identity}
 use Rattle.model.specs.declared.types.Update.{Update}
 use Rattle.model.specs.declared.types.Node.{Node}
 use Rattle.model.specs.declared.types.Refusal.{Refusal}
-use Rattle.model.specs.declared.types.Stepped.{Stepped}
-use Rattle.model.specs.declared.types.Stepped.TheVariants.{Going, Replied}
+use Rattle.model.specs.declared.types.Replied.{Replied}
 use Rattle.model.specs.declared.types.Outcome.{Outcome}
 use Rattle.model.specs.declared.types.Outcome.TheVariants.{Done, Open, Never}
 use Rattle.model.proofs.Sound.{station_here, updates_of, update_of, flag_of}
@@ -121,10 +120,10 @@ holds_inside : (us : List Update) (s : ℕ) (c : Made) (p g : ℕ) → holds_num
 holds_inside us s c p zero h = h
 holds_inside us s c p (suc g) h = h.1
 
-kept_says : {S : Type 0} (R : Rules S) (h : List Moment) {us us' : List Update} (s : ℕ) (a : Result Stepped Refusal) (b : ℕ) →
+kept_says : {S : Type 0} (R : Rules S) (h : List Moment) {us us' : List Update} (s : ℕ) (a : Result (Option Replied) Refusal) (b : ℕ) →
     Keeps (length us) us us' → RightStep R h us s a b → RightStep R h us' s a b
-kept_says R h s (Ok Going) b k f = tt
-kept_says R h {us} s (Ok (Replied p v)) b k f = kept_reply R (kept_less (holds_inside us s f.made p f.made.number f.holds) k) f
+kept_says R h s (Ok None) b k f = tt
+kept_says R h {us} s (Ok (Some x)) b k f = kept_reply R (kept_less (holds_inside us s f.made x.place f.made.number f.holds) k) f
 kept_says R h s (Err q) b k f = tt
 
 pub past_step : {S : Type 0} (R : Rules S) (h : List Moment) (r : Machine S) (s : ℕ) (ns : List ℕ) → Live R h r → Past R h →
@@ -199,7 +198,7 @@ past_call {S} R h r s o z past = past_more R h (called s o (calling r s o).answe
 -- Outcomes
 
 abbrev NeverOf : Outcome → ℕ → ℕ → Type 0
-NeverOf (Done p v) run num = Unit
+NeverOf (Done x) run num = Unit
 NeverOf Open run num = Unit
 NeverOf Never run num = run < num
 
@@ -215,7 +214,7 @@ NeverIn (cut k) num = Unit
 
 never_of : {S : Type 0} (R : Rules S) (num : ℕ) (o : List Node) (us : List Update) (run s n : ℕ) (a : Outcome) → RightOutcome R num o us run s n a →
     run ≤ num → NeverOf a run num
-never_of R num o us run s n (Done p v) t l = tt
+never_of R num o us run s n (Done x) t l = tt
 never_of R num o us run s n Open t l = tt
 never_of R num o us run s n Never t l = let k = t.0 in omega arith
 
@@ -272,5 +271,5 @@ live_tell {S} R h r run s n z = telling_cases r run s n P (λ q y t. told_live R
     go : (x : Option ℕ) → P (machine.told r run x)
     go None y t = told_live R h r run s n (Ok (cond (eqb run r.number) Open Never)) z y
         (never_in r.rules r.number r.order (updates h) run s n (Ok (cond (eqb run r.number) Open Never)) t)
-    go (Some p) y t = live_state R (told run s n (Ok (Done p (reply_at r.rules r.order p))) ∷ h) r (state_after r.rules r.order p)
-        (told_live R h r run s n (Ok (Done p (reply_at r.rules r.order p))) z y tt)
+    go (Some p) y t = live_state R (told run s n (Ok (done_at p (reply_at r.rules r.order p))) ∷ h) r (state_after r.rules r.order p)
+        (told_live R h r run s n (Ok (done_at p (reply_at r.rules r.order p))) z y tt)

@@ -1,5 +1,5 @@
 -- What a call or a step leaves as it was.
-use Rattle.std.proofs.Common.{◌≡◌, ℕ, pred, ◌<◌, ◌≤◌, true, eqb, List, length, set, Result, refl, ap, inl, inr, arith}
+use Rattle.std.proofs.Common.{◌≡◌, ℕ, pred, ◌<◌, ◌≤◌, true, eqb, List, length, set, Result, refl, ap, inl, inr, arith, Option}
 use Rattle.std.proofs.lemmas.List.{length-set, get_or-set_same, get_or-set_other, length_push, get_or_push}
 use Rattle.std.proofs.lemmas.Bool.{cases_eq, cond_both}
 use Rattle.book.specs.declared.types.Op.{Op}
@@ -16,7 +16,7 @@ use Rattle.model.specs.declared.types.Call.{Call}
 use Rattle.model.specs.declared.types.Call.TheVariants as calls
 use Rattle.model.specs.declared.types.Station.{Station}
 use Rattle.model.specs.declared.types.Refusal.{Refusal}
-use Rattle.model.specs.declared.types.Stepped.{Stepped}
+use Rattle.model.specs.declared.types.Replied.{Replied}
 use Rattle.model.proofs.Sound.{station_of, own_update, update_of, flag_of, Grown, grown_same}
 use Rattle.model.proofs.Moves.{grown_push, unflagged, grown_flag}
 use Rattle.model.proofs.Steps.{SoundAt, StandsAt, stands_at, stepping_cases}
@@ -73,7 +73,7 @@ onward_moved r s o' x' st room gr le new = record {
 pub step_onward : {S : Type 0} (r : Machine S) (s : ℕ) (l : Ledger) → SoundAt r l → Onward r (stepping r s).machine
 step_onward {S} r s l z = stepping_cases r s P (λ q. onward_none r) (λ u a m. go a m (station_at r s).call refl)
   where
-    P : Doing S (Result Stepped Refusal) → Type 0
+    P : Doing S (Result (Option Replied) Refusal) → Type 0
     P d = Onward r d.machine
 
     same : 1 ≤ s → s ≤ station_count → (x' : Station) (st : S) → (station_at r s).given ≡ x'.given → Onward r (with_state (with_station r s x') st)

@@ -4,7 +4,7 @@ use Rattle.std.proofs.lemmas.List.{length-take, length-map}
 use Rattle.std.proofs.lemmas.Bool.{both_ways, eqb-true, eq-eqb, and_parts, cases_Bool, and_from, cond-true, cond-false, cond_both}
 use Rattle.model.specs.Journal.{station_count}
 use Rattle.model.specs.Machine as machine
-use Rattle.model.specs.Machine.{Machine, ask, first_of, Doing, refused, no_update, is_station, flag_at, reply_at, highest_from, highest_flag, has_identity, place_of, known, telling_by, telling}
+use Rattle.model.specs.Machine.{done_at, Machine, ask, first_of, Doing, refused, no_update, is_station, flag_at, reply_at, highest_from, highest_flag, has_identity, place_of, known, telling_by, telling}
 use Rattle.model.specs.History.{Moment}
 use Rattle.model.specs.History.Moment.{told}
 use Rattle.model.specs.Law.{identity}
@@ -14,7 +14,7 @@ use Rattle.model.specs.declared.types.Refusal.{Refusal}
 use Rattle.model.specs.declared.types.Refusal.TheVariants.{NoIdentity}
 use Rattle.model.specs.declared.types.Status.TheVariants.{Up}
 use Rattle.model.specs.declared.types.Outcome.{Outcome}
-use Rattle.model.specs.declared.types.Outcome.TheVariants.{Done, Open, Never}
+use Rattle.model.specs.declared.types.Outcome.TheVariants.{Open, Never}
 use Rattle.model.proofs.Sound.{updates_of, update_of, flag_of}
 use Rattle.model.proofs.Steps.{opening, station_bounds}
 use Rattle.model.proofs.Timed.{outcome_place, Flagged, Timed, flagged_zero, timed_quiet, TimedAt}
@@ -126,7 +126,7 @@ pub tell_timed : {S : Type 0} (r : Machine S) (run s n : ℕ) (h : List Moment) 
     TimedTold r.number h run s n (telling r run s n)
 tell_timed {S} r run s n h y = telling_cases r run s n (TimedTold r.number h run s n) (λ q. quiet (Err q) (flagged_zero r.order))
     (λ u a m k. elim (place_found (take (highest_flag r.order) r.order) 1 run s n) [
-      | inl w ↦ rw w.1 (quiet (Ok (Done (1 + w.0) (reply_at r.rules r.order (1 + w.0)))) (below w.0 w.2))
+      | inl w ↦ rw w.1 (quiet (Ok (done_at (1 + w.0) (reply_at r.rules r.order (1 + w.0)))) (below w.0 w.2))
       | inr w ↦ rw w.0 (cond_both (eqb run r.number) Open Never
           (λ (x : Outcome). Timed r.number (told run s n (Ok x) ∷ h) r.order r.stations)
           (λ e. quiet (Ok Open) (flagged_zero r.order)) (λ e. quiet (Ok Never) (flagged_zero r.order)))

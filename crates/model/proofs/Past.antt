@@ -5,16 +5,15 @@ use Rattle.std.proofs.lemmas.Bool.{ne_eqb}
 use Rattle.book.specs.declared.types.Op.{Op}
 use Rattle.book.specs.Rules.{Rules, Reply}
 use Rattle.model.specs.Journal.{max_place}
-use Rattle.model.specs.Machine.{no_update, has_identity}
+use Rattle.model.specs.Machine.{done_at, no_update, has_identity, reply_given}
 use Rattle.model.specs.History.{Moment, Came, ledger, updates, found_count, Made, newest}
 use Rattle.model.specs.History.Moment.{started, risen, called, stepped, told, cut}
 use Rattle.model.specs.History.Tells.{by_reply, by_done}
 use Rattle.model.specs.Law.{update_at, identity, Linearizable, Identified, OneFence}
 use Rattle.model.specs.declared.types.Update.{Update}
 use Rattle.model.specs.declared.types.Refusal.{Refusal}
-use Rattle.model.specs.declared.types.Stepped.TheVariants.{Replied}
 use Rattle.model.specs.declared.types.Outcome.{Outcome}
-use Rattle.model.specs.declared.types.Outcome.TheVariants.{Done, Open, Never}
+use Rattle.model.specs.declared.types.Outcome.TheVariants.{Open, Never}
 use Rattle.model.proofs.Timed.{told_place, peak, came_peak}
 use Rattle.model.proofs.Outcomes.{identity_is}
 use Rattle.model.proofs.Replies.{RightReply, RightStep, Missing, RightDone}
@@ -34,8 +33,8 @@ distinct_take k us d = let e = length-take k us in record {
 -- what is told of an earlier run
 abbrev pub Earlier : List Moment → ℕ → ℕ → ℕ → Outcome → Type 0
 Earlier e run s n a = run < (ledger e).run →
-    ((p : ℕ) → 1 ≤ p → p ≤ found_count e → identity (update_at (updates e) p) ≡ (run, s, n) → (q : ℕ) × (v : Reply) × (a ≡ Done q v))
-    × ((q : ℕ) (v : Reply) → a ≡ Done q v → (1 ≤ q) × (q ≤ found_count e) × (identity (update_at (updates e) q) ≡ (run, s, n)))
+    ((p : ℕ) → 1 ≤ p → p ≤ found_count e → identity (update_at (updates e) p) ≡ (run, s, n) → (q : ℕ) × (v : Reply) × (a ≡ done_at q v))
+    × ((q : ℕ) (v : Reply) → a ≡ done_at q v → (1 ≤ q) × (q ≤ found_count e) × (identity (update_at (updates e) q) ≡ (run, s, n)))
     × (a ≡ Open → ⊥)
 
 -- What the newest moment of x ∷ h brings, where us are the updates then
@@ -45,8 +44,8 @@ pub record FreshTold {S : Type 0} (R : Rules S) (h : List Moment) (us : List Upd
   pub earlier : Earlier h run s n a
   pub steady : (b : Outcome) (e : List Moment) → Came h (told run s n (Ok b)) e → (b ≡ Open → ⊥) → a ≡ b
   pub answered : (p : ℕ) (v : Reply) (b : ℕ) (c : Made) (e : List Moment) →
-      Came h (stepped s (Ok (Replied p v)) b) e → newest e s ≡ Some c → c.run ≡ run → c.number ≡ n → 1 ≤ n → a ≡ Done p v
-  pub done : (p : ℕ) (v : Reply) → a ≡ Done p v → RightDone R us p v run s n
+      Came h (stepped s (Ok (reply_given p v)) b) e → newest e s ≡ Some c → c.run ≡ run → c.number ≡ n → 1 ≤ n → a ≡ done_at p v
+  pub done : (p : ℕ) (v : Reply) → a ≡ done_at p v → RightDone R us p v run s n
   pub never : a ≡ Never → (run < (ledger h).run) × Missing us (length us) run s n
 
 abbrev pub FreshOutcome : {S : Type 0} → Rules S → List Moment → List Update → ℕ → ℕ → ℕ → Result Outcome Refusal → Type 0
@@ -78,8 +77,8 @@ Adds h us us' = (i : ℕ) → i < length us' →
 pub record Past {S : Type 0} (R : Rules S) (h : List Moment) : Type 0 where
   pub inside : peak h ≤ length (updates h)
   pub distinct : Distinct (updates h)
-  pub replies : (s p : ℕ) (v : Reply) (b : ℕ) (e : List Moment) → Came h (stepped s (Ok (Replied p v)) b) e → RightReply R e (updates h) s p v b
-  pub outcomes : (run s n p : ℕ) (v : Reply) (e : List Moment) → Came h (told run s n (Ok (Done p v))) e → RightDone R (updates h) p v run s n
+  pub replies : (s p : ℕ) (v : Reply) (b : ℕ) (e : List Moment) → Came h (stepped s (Ok (reply_given p v)) b) e → RightReply R e (updates h) s p v b
+  pub outcomes : (run s n p : ℕ) (v : Reply) (e : List Moment) → Came h (told run s n (Ok (done_at p v))) e → RightDone R (updates h) p v run s n
   pub nevers : (run s n : ℕ) (e : List Moment) → Came h (told run s n (Ok Never)) e →
       (run < (ledger e).run) × Missing (updates h) (length (updates h)) run s n
   pub once : (s n : ℕ) (o₁ o₂ : Op) (e₁ e₂ : List Moment) →
@@ -88,7 +87,7 @@ pub record Past {S : Type 0} (R : Rules S) (h : List Moment) : Type 0 where
   pub steady : (run s n : ℕ) (a b : Outcome) (e₁ e₂ : List Moment) →
       Came h (told run s n (Ok b)) e₂ → Came e₂ (told run s n (Ok a)) e₁ → (a ≡ Open → ⊥) → b ≡ a
   pub answered : (s p : ℕ) (v : Reply) (b : ℕ) (a : Outcome) (c : Made) (e f : List Moment) →
-      Came h (told c.run s c.number (Ok a)) e → Came e (stepped s (Ok (Replied p v)) b) f → newest f s ≡ Some c → 1 ≤ c.number → a ≡ Done p v
+      Came h (told c.run s c.number (Ok a)) e → Came e (stepped s (Ok (reply_given p v)) b) f → newest f s ≡ Some c → 1 ≤ c.number → a ≡ done_at p v
 
 -- one moment more: the updates up to the highest place told are kept, and the moment brings what it must
 pub past_more : {S : Type 0} (R : Rules S) (h : List Moment) (x : Moment) → Past R h → Keeps (peak h) (updates h) (updates (x ∷ h)) →
@@ -97,12 +96,12 @@ pub past_more : {S : Type 0} (R : Rules S) (h : List Moment) (x : Moment) → Pa
 past_more {S} R h x past k low dis adds fresh = record {
   inside = omega (arith, low, k.inside);
   distinct = dis;
-  replies = λ s p v b e c. elim (came_cases x (stepped s (Ok (Replied p v)) b) h e c) [
-    | inl q ↦ now (stepped s (Ok (Replied p v)) b) e q
+  replies = λ s p v b e c. elim (came_cases x (stepped s (Ok (reply_given p v)) b) h e c) [
+    | inl q ↦ now (stepped s (Ok (reply_given p v)) b) e q
     | inr w ↦ kept_reply R (kept_less (came_peak h e _ p w by_reply) k) (past.replies s p v b e w)
   ];
-  outcomes = λ run s n p v e c. elim (came_cases x (told run s n (Ok (Done p v))) h e c) [
-    | inl q ↦ (now_told run s n (Done p v) e q).done p v refl
+  outcomes = λ run s n p v e c. elim (came_cases x (told run s n (Ok (done_at p v))) h e c) [
+    | inl q ↦ (now_told run s n (done_at p v) e q).done p v refl
     | inr w ↦ kept_done R (kept_less (came_peak h e _ p w by_done) k) (past.outcomes run s n p v e w)
   ];
   nevers = λ run s n e c. elim (came_cases x (told run s n (Ok Never)) h e c) [

@@ -1,12 +1,12 @@
 -- What a reply and an outcome say is what the ledger says.
-use Rattle.std.proofs.Common.{◌≡◌, ℕ, zero, suc, pred, ◌+◌, ◌^◌, ◌<◌, ◌≤◌, min, true, false, eqb, leb, List, [], ◌∷◌, length, get_or, take, Some, Ok, Err, Result, sym, refl, ap, ◌∙◌, inl, inr, arith}
+use Rattle.std.proofs.Common.{◌≡◌, ℕ, zero, suc, pred, ◌+◌, ◌^◌, ◌<◌, ◌≤◌, min, true, false, eqb, leb, List, [], ◌∷◌, length, get_or, take, Some, Ok, Err, Result, sym, refl, ap, ◌∙◌, inl, inr, arith, Option, None}
 use Rattle.std.proofs.lemmas.List.{length-take, length-map, length-take-le, get_or-take, get_or-map, take-map}
 use Rattle.std.proofs.lemmas.Bool.{leb-true, eqb-true, eqb-false, eq-eqb, and_parts, cond_both}
 use Rattle.book.specs.declared.types.Op.{Op}
 use Rattle.book.specs.Rules.{Rules, Reply, apply_reply, ask_reply, after}
 use Rattle.model.specs.Journal.{station_count, within}
 use Rattle.model.specs.Machine as machine
-use Rattle.model.specs.Machine.{Machine, Doing, left, no_update, station_at, no_node, flag_at, state_after, reply_at, update_step, query_step, station_step, stepping, highest_flag, has_identity, known, telling}
+use Rattle.model.specs.Machine.{Machine, Doing, left, no_update, station_at, no_node, flag_at, state_after, reply_at, update_step, query_step, station_step, stepping, highest_flag, has_identity, known, telling, reply_given}
 use Rattle.model.specs.Machine.Touch.{nothing}
 use Rattle.model.specs.History.{Moment, paid, ledger, updates, Made, newest, fences_since}
 use Rattle.model.specs.History.Moment.{stepped}
@@ -21,8 +21,7 @@ use Rattle.model.specs.declared.types.QueryPhase.TheVariants as query
 use Rattle.model.specs.declared.types.Call.{Call}
 use Rattle.model.specs.declared.types.Call.TheVariants as calls
 use Rattle.model.specs.declared.types.Refusal.{Refusal}
-use Rattle.model.specs.declared.types.Stepped.{Stepped}
-use Rattle.model.specs.declared.types.Stepped.TheVariants.{Going, Replied}
+use Rattle.model.specs.declared.types.Replied.{Replied}
 use Rattle.model.specs.declared.types.Outcome.{Outcome}
 use Rattle.model.specs.declared.types.Outcome.TheVariants.{Done, Open, Never}
 use Rattle.model.proofs.Sound.{own_update, updates_of, update_of}
@@ -56,11 +55,11 @@ pub record RightReply {S : Type 0} (R : Rules S) (h : List Moment) (us : List Up
   pub value : v ≡ reply_of R us made.number made.op p
   pub over : peak made.before ≤ p
   pub strictly : 1 ≤ made.number → peak made.before < p
-  pub cost : fences_since (stepped s (Ok (Replied p v)) b ∷ h) s ≡ min 1 made.number
+  pub cost : fences_since (stepped s (Ok (reply_given p v)) b ∷ h) s ≡ min 1 made.number
 
-abbrev pub RightStep : {S : Type 0} → Rules S → List Moment → List Update → ℕ → Result Stepped Refusal → ℕ → Type 0
-RightStep R h us s (Ok Going) b = Unit
-RightStep R h us s (Ok (Replied p v)) b = RightReply R h us s p v b
+abbrev pub RightStep : {S : Type 0} → Rules S → List Moment → List Update → ℕ → Result (Option Replied) Refusal → ℕ → Type 0
+RightStep R h us s (Ok None) b = Unit
+RightStep R h us s (Ok (Some x)) b = RightReply R h us s x.place x.reply b
 RightStep R h us s (Err q) b = Unit
 
 number_holds : (us : List Update) (s : ℕ) (c : Made) (p g : ℕ) → 1 ≤ g → 1 ≤ p → p ≤ length us →
@@ -79,13 +78,13 @@ pub step_says : {S : Type 0} (r : Machine S) (s : ℕ) (h : List Moment) (ns : L
     RightStep r.rules h (updates h) s (stepping r s).answer (paid r.memory (left (stepping r s) ns).memory)
 step_says {S} r s h ns clock z y = stepping_cases r s Right (λ q. tt) (λ u a m. go a m (station_at r s).call refl)
   where
-    Right : Doing S (Result Stepped Refusal) → Type 0
+    Right : Doing S (Result (Option Replied) Refusal) → Type 0
     Right d = RightStep r.rules h (updates h) s d.answer (paid r.memory (left d ns).memory)
 
     long : length r.order ≡ length (updates h)
     long = order_length r (ledger h) z
 
-    spent : (p : ℕ) (v : Reply) (n : ℕ) → fences_since h s ≡ n → fences_since (stepped s (Ok (Replied p v)) (paid r.memory r.memory) ∷ h) s ≡ n
+    spent : (p : ℕ) (v : Reply) (n : ℕ) → fences_since h s ≡ n → fences_since (stepped s (Ok (reply_given p v)) (paid r.memory r.memory) ∷ h) s ≡ n
     spent p v n e = rw (eq-eqb s s refl, paid_touch nothing ns r.memory clock) (omega arith)
 
     update_says : (op : Op) (p : Phase) → StandsAt r s (calls.Update op p) → FloorAt h r s (calls.Update op p) →
@@ -146,7 +145,7 @@ pub record RightDone {S : Type 0} (R : Rules S) (us : List Update) (p : ℕ) (v 
 
 -- done at or below the highest flag; or missing up to there, in this run or in an earlier one
 abbrev pub RightOutcome : {S : Type 0} → Rules S → ℕ → List Node → List Update → ℕ → ℕ → ℕ → Outcome → Type 0
-RightOutcome R num o us run s n (Done p v) = RightDone R us p v run s n × (p ≤ highest_flag o)
+RightOutcome R num o us run s n (Done x) = RightDone R us x.place x.reply run s n × (x.place ≤ highest_flag o)
 RightOutcome R num o us run s n Open = (run ≡ num) × Missing us (highest_flag o) run s n
 RightOutcome R num o us run s n Never = (run ≡ num → ⊥) × Missing us (highest_flag o) run s n
 

@@ -20,7 +20,7 @@ use Rattle.model.specs.declared.types.Refusal.{Refusal}
 use Rattle.model.specs.declared.types.Refusal.TheVariants.{NoStation, NotUp}
 use Rattle.model.specs.declared.types.Status.{Status}
 use Rattle.model.specs.declared.types.Status.TheVariants.{Rising, Up, Shut}
-use Rattle.model.specs.declared.types.Stepped.{Stepped}
+use Rattle.model.specs.declared.types.Replied.{Replied}
 use Rattle.model.proofs.Pigeons.{pigeons}
 use Rattle.model.proofs.Sound.{station_of, own_update, awaits_call, own_phase, own_call, update_of, flag_of, Holds, Apart, Away, stand_query, stand_call, Owned, Sound, Slots, slots_set, slots_same}
 use Rattle.model.proofs.Moves.{keep, placed, flag_set, flagged_now}
@@ -99,7 +99,7 @@ pub stands_at : {S : Type 0} (r : Machine S) (l : Ledger) → SoundAt r l → (s
 stands_at r l z s a h e = subst (λ c. StandsAt r s c) e (z.stands s a h)
 
 -- the run and the ledger after a step of station s
-abbrev SoundBy : {S : Type 0} → Ledger → ℕ → ℕ → Doing S (Result Stepped Refusal) → Type 0
+abbrev SoundBy : {S : Type 0} → Ledger → ℕ → ℕ → Doing S (Result (Option Replied) Refusal) → Type 0
 SoundBy l s b d = SoundAt d.machine (fed l (stepped s d.answer b))
 
 -- the order is as long as the ledger
@@ -194,7 +194,7 @@ pub station_bounds : (s : ℕ) → is_station s ≡ true → (1 ≤ s) × (s ≤
 station_bounds s e = let k = and_parts (leb 1 s) (leb s station_count) e in (leb-true 1 s k.0, leb-true s station_count k.1)
 
 -- a step is refused, or is one of a station in a run that is up
-pub stepping_cases : {S : Type 0} (r : Machine S) (s : ℕ) (P : Doing S (Result Stepped Refusal) → Type 0) → ((q : Refusal) → P (refused r q)) →
+pub stepping_cases : {S : Type 0} (r : Machine S) (s : ℕ) (P : Doing S (Result (Option Replied) Refusal) → Type 0) → ((q : Refusal) → P (refused r q)) →
     (r.status ≡ Up → 1 ≤ s → s ≤ station_count → P (station_step r s (station_at r s) (station_at r s).call)) → P (stepping r s)
 stepping_cases r s P refuse accept = opening r.status (is_station s) (λ q. q) (λ (q : Option Refusal). P (stepping_by q r s)) refuse refuse
     (λ u b. let k = station_bounds s b in accept u k.0 k.1)

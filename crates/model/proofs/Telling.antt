@@ -1,15 +1,14 @@
 -- Outcomes keep the promises: a new outcome agrees with all that was told and replied before.
-use Rattle.std.proofs.Common.{◌≡◌, ℕ, zero, suc, pred, ◌<◌, ◌≤◌, true, List, ◌∷◌, length, get_or, Some, Ok, Err, Result, sym, refl, ap, ◌∙◌, subst, inl, inr, arith}
+use Rattle.std.proofs.Common.{◌≡◌, ℕ, zero, suc, pred, ◌<◌, ◌≤◌, true, List, ◌∷◌, length, get_or, Some, Ok, Err, Result, sym, refl, ap, ap₂, ◌∙◌, subst, inl, inr, arith}
 use Rattle.std.proofs.lemmas.Bool.{both_ways, ne_eqb, cases_lt, cases_order}
 use Rattle.book.specs.Rules.{Rules, Reply, apply_reply}
-use Rattle.model.specs.Machine.{Machine, no_update, highest_flag, has_identity, telling}
+use Rattle.model.specs.Machine.{done_at, Machine, no_update, highest_flag, has_identity, telling, reply_given}
 use Rattle.model.specs.History.{Moment, Came, ledger, updates, found_count, Made, newest}
 use Rattle.model.specs.History.Moment.{stepped, told}
 use Rattle.model.specs.History.Tells.{by_reply, by_done}
 use Rattle.model.specs.Law.{state_at, update_at, reply_of, holds_number, identity}
 use Rattle.model.specs.declared.types.Update.{Update}
 use Rattle.model.specs.declared.types.Refusal.{Refusal}
-use Rattle.model.specs.declared.types.Stepped.TheVariants.{Replied}
 use Rattle.model.specs.declared.types.Outcome.{Outcome}
 use Rattle.model.specs.declared.types.Outcome.TheVariants.{Done, Open, Never}
 use Rattle.model.proofs.Sound.{own_update}
@@ -28,12 +27,12 @@ first_same us i j run s n a b = elim (cases_order i j) [
 
 -- what an outcome is, taken along an equation
 abbrev DoneRight : {S : Type 0} → Rules S → List Update → ℕ → ℕ → ℕ → Outcome → Type 0
-DoneRight R us run s n (Done p v) = RightDone R us p v run s n
+DoneRight R us run s n (Done x) = RightDone R us x.place x.reply run s n
 DoneRight R us run s n Open = Unit
 DoneRight R us run s n Never = Unit
 
 abbrev DoneFound : List Moment → ℕ → ℕ → ℕ → Outcome → Type 0
-DoneFound h run s n (Done q w) = (1 ≤ q) × (q ≤ found_count h) × (identity (update_at (updates h) q) ≡ (run, s, n))
+DoneFound h run s n (Done x) = (1 ≤ x.place) × (x.place ≤ found_count h) × (identity (update_at (updates h) x.place) ≡ (run, s, n))
 DoneFound h run s n Open = Unit
 DoneFound h run s n Never = Unit
 
@@ -51,7 +50,7 @@ module _ {S : Type 0} (R : Rules S) (h : List Moment) (r : Machine S) (run s n :
 
   -- station s has replied at place p with v to the update of this identity
   abbrev RepliedBefore : ℕ → Reply → Type 0
-  RepliedBefore p v = (b : ℕ) × (c : Made) × (e : List Moment) × Came h (stepped s (Ok (Replied p v)) b) e × (newest e s ≡ Some c) ×
+  RepliedBefore p v = (b : ℕ) × (c : Made) × (e : List Moment) × Came h (stepped s (Ok (reply_given p v)) b) e × (newest e s ≡ Some c) ×
       (c.run ≡ run) × (c.number ≡ n) × (1 ≤ n)
 
   -- all that was told, and all that the start found, is at or below the highest flag
@@ -64,7 +63,7 @@ module _ {S : Type 0} (R : Rules S) (h : List Moment) (r : Machine S) (run s n :
   found_flagged (suc p) m = top_above r.order (suc p) (omega (arith, z.inside)) (z.old p m)
 
   -- so where no flagged update has the identity, it was never told done, and the start has not found it
-  never_done : Unflagged → (p : ℕ) (v : Reply) (e : List Moment) → Came h (told run s n (Ok (Done p v))) e → ⊥
+  never_done : Unflagged → (p : ℕ) (v : Reply) (e : List Moment) → Came h (told run s n (Ok (done_at p v))) e → ⊥
   never_done miss p v e c =
       let f = past.outcomes run s n p v e c in
       let k = told_flagged p (came_peak h e _ p c by_done) in both_ways _ (miss (pred p) (omega (arith, f.low))) f.first.is
@@ -78,7 +77,7 @@ module _ {S : Type 0} (R : Rules S) (h : List Moment) (r : Machine S) (run s n :
       let k = order_length r (ledger h) z.sound in
       ap (λ (u : Update). u.run) (update_same r.order (updates h) i z.sound.same (omega arith)) ∙ z.new i a (omega arith)
 
-  found_of : (p : ℕ) (v : Reply) → RightDone R (updates h) p v run s n → run < (ledger h).run → DoneFound h run s n (Done p v)
+  found_of : (p : ℕ) (v : Reply) → RightDone R (updates h) p v run s n → run < (ledger h).run → DoneFound h run s n (done_at p v)
   found_of p v t k = let i = identity_is (update_at (updates h) p) run s n t.first.is in (t.low, old i, i)
     where
       old : identity (update_at (updates h) p) ≡ (run, s, n) → p ≤ found_count h
@@ -98,21 +97,23 @@ module _ {S : Type 0} (R : Rules S) (h : List Moment) (r : Machine S) (run s n :
   -- What was told before
 
   steady_done : (p : ℕ) (v : Reply) → RightDone R (updates h) p v run s n → (b : Outcome) (e : List Moment) → Came h (told run s n (Ok b)) e →
-      (b ≡ Open → ⊥) → Done p v ≡ b
-  steady_done p v t (Done q w) e c d =
-      let f = past.outcomes run s n q w e c in
-      let i = first_same (updates h) (pred p) (pred q) run s n t.first f.first in
-      let k : p ≡ q = omega (arith, t.low, f.low) in let a = t.value in let b = f.value in cc
+      (b ≡ Open → ⊥) → done_at p v ≡ b
+  steady_done p v t (Done x) e c d =
+      let f = past.outcomes run s n x.place x.reply e c in
+      let i = first_same (updates h) (pred p) (pred x.place) run s n t.first f.first in
+      let k : p ≡ x.place = omega (arith, t.low, f.low) in
+      let e : v ≡ x.reply = let a = t.value in let b = f.value in cc in
+      ap₂ done_at k e
   steady_done p v t Open e c d = absurd (d refl)
   steady_done p v t Never e c d = absurd (both_ways _ ((past.nevers run s n e c).1 (pred p) t.first.inside) t.first.is)
 
   steady_open : run ≡ r.number → Unflagged → (b : Outcome) (e : List Moment) → Came h (told run s n (Ok b)) e → (b ≡ Open → ⊥) → Open ≡ b
-  steady_open q miss (Done p v) e c d = absurd (never_done miss p v e c)
+  steady_open q miss (Done x) e c d = absurd (never_done miss x.place x.reply e c)
   steady_open q miss Open e c d = refl
   steady_open q miss Never e c d = let k = z.nevers run s n e c in absurd (omega arith)
 
   steady_never : Unflagged → (b : Outcome) (e : List Moment) → Came h (told run s n (Ok b)) e → (b ≡ Open → ⊥) → Never ≡ b
-  steady_never miss (Done p v) e c d = absurd (never_done miss p v e c)
+  steady_never miss (Done x) e c d = absurd (never_done miss x.place x.reply e c)
   steady_never miss Open e c d = absurd (d refl)
   steady_never miss Never e c d = refl
 
@@ -135,7 +136,7 @@ module _ {S : Type 0} (R : Rules S) (h : List Moment) (r : Machine S) (run s n :
         a.3 ∙ ap (λ (u : Update). apply_reply R (state_at R (updates h) (pred p)) u.op) (sym a.2),
       )
 
-  answered_done : (q : ℕ) (w : Reply) → RightDone R (updates h) q w run s n → (p : ℕ) (v : Reply) → RepliedBefore p v → Done q w ≡ Done p v
+  answered_done : (q : ℕ) (w : Reply) → RightDone R (updates h) q w run s n → (p : ℕ) (v : Reply) → RepliedBefore p v → done_at q w ≡ done_at p v
   answered_done q w t p v f =
       let a = answered_at p v f in let l = a.0 in let y = a.3 in let x = t.value in
       let eq : q ≡ p = same (pred q) (pred p) t.first a.2 (omega (arith, a.1)) (omega (arith, t.low)) in cc
@@ -159,14 +160,14 @@ module _ {S : Type 0} (R : Rules S) (h : List Moment) (r : Machine S) (run s n :
   -- The new outcome
 
   fresh_told : (a : Outcome) → RightOutcome R r.number r.order (updates h) run s n a → run ≤ r.number → FreshTold R h (updates h) run s n a
-  fresh_told (Done p v) t l = record {
+  fresh_told (Done x) t l = record {
     earlier = λ k. (
-      (λ q b c d. (p, v, refl)),
-      (λ q w e. subst (λ (a : Outcome). DoneFound h run s n a) e (found_of p v t.0 k)),
+      (λ q b c d. (x.place, x.reply, refl)),
+      (λ q w e. subst (λ (a : Outcome). DoneFound h run s n a) e (found_of x.place x.reply t.0 k)),
       λ e. let y : ◌≡◌ {A = ℕ} 0 1 = cc in omega arith,
     );
-    steady = steady_done p v t.0;
-    answered = λ q w b c e k d i g m. answered_done p v t.0 q w (b, c, e, k, d, i, g, m);
+    steady = steady_done x.place x.reply t.0;
+    answered = λ q w b c e k d i g m. answered_done x.place x.reply t.0 q w (b, c, e, k, d, i, g, m);
     done = λ q w e. subst (λ (a : Outcome). DoneRight R (updates h) run s n a) e t.0;
     never = λ e. let y : ◌≡◌ {A = ℕ} 0 1 = cc in absurd (omega arith);
   }

@@ -1,5 +1,5 @@
 -- Real time: what was told before a call was made lies below the place that the call gets; and each update pays one fence.
-use Rattle.std.proofs.Common.{◌≡◌, ℕ, pred, ◌+◌, ◌*◌, ◌%◌, ◌^◌, ◌<◌, ◌≤◌, max, Bool, true, false, cond, ◌&&◌, eqb, ltb, List, [], ◌∷◌, ◌++◌, length, set, Some, Ok, Err, Option, Result, sym, refl, ◌∙◌, subst, inl, inr, arith}
+use Rattle.std.proofs.Common.{◌≡◌, ℕ, pred, ◌+◌, ◌*◌, ◌%◌, ◌^◌, ◌<◌, ◌≤◌, max, Bool, true, false, cond, ◌&&◌, eqb, ltb, List, [], ◌∷◌, ◌++◌, length, set, Some, Ok, Err, Option, Result, sym, refl, ◌∙◌, subst, inl, inr, arith, None}
 use Rattle.std.proofs.lemmas.Bool.{both_ways, eqb-true, eq-eqb, ne_eqb, cases_lt, cases_eq, cond_both}
 use Rattle.memory.specs.Model.{Mem, has_line}
 use Rattle.book.specs.declared.types.Op.{Op}
@@ -19,8 +19,7 @@ use Rattle.model.specs.declared.types.Call.TheVariants as calls
 use Rattle.model.specs.declared.types.Station.{Station}
 use Rattle.model.specs.declared.types.Refusal.{Refusal}
 use Rattle.model.specs.declared.types.Refusal.TheVariants.{NoCall}
-use Rattle.model.specs.declared.types.Stepped.{Stepped}
-use Rattle.model.specs.declared.types.Stepped.TheVariants.{Going, Replied}
+use Rattle.model.specs.declared.types.Replied.{Replied}
 use Rattle.model.specs.declared.types.Outcome.{Outcome}
 use Rattle.model.specs.declared.types.Outcome.TheVariants.{Done, Open, Never}
 use Rattle.model.proofs.Sound.{station_of, each_station, own_update, stand_query, Grown, grown_same, flag_other}
@@ -30,13 +29,13 @@ use Rattle.model.proofs.Steps.{walk_low, SoundAt, StandsAt, stands_at, stepping_
 -- Places told
 
 -- the place that a moment tells; 0 if it tells none
-abbrev pub reply_place : Result Stepped Refusal → ℕ
-reply_place (Ok Going) = 0
-reply_place (Ok (Replied p v)) = p
+abbrev pub reply_place : Result (Option Replied) Refusal → ℕ
+reply_place (Ok None) = 0
+reply_place (Ok (Some x)) = x.place
 reply_place (Err q) = 0
 
 abbrev pub outcome_place : Result Outcome Refusal → ℕ
-outcome_place (Ok (Done p v)) = p
+outcome_place (Ok (Done x)) = x.place
 outcome_place (Ok Open) = 0
 outcome_place (Ok Never) = 0
 outcome_place (Err q) = 0
@@ -215,7 +214,7 @@ pub floor_at : {S : Type 0} (h : List Moment) (r : Machine S) → TimedAt h r �
 floor_at h r y s a m e = subst (λ c. FloorAt h r s c) e (y.floors s a m)
 
 -- the run after a step of station s on the memory m
-abbrev pub TimedBy : {S : Type 0} → ℕ → List Moment → ℕ → Mem → List ℕ → Doing S (Result Stepped Refusal) → Type 0
+abbrev pub TimedBy : {S : Type 0} → ℕ → List Moment → ℕ → Mem → List ℕ → Doing S (Result (Option Replied) Refusal) → Type 0
 TimedBy num h s m ns d = Timed num (stepped s d.answer (paid m (left d ns).memory) ∷ h) d.machine.order d.machine.stations
 
 -- writing does not fence
@@ -225,7 +224,7 @@ write_dry r s own m i = cond_both (eqb (i % 10) 0) _ _ (λ (t : Touch). is_fence
 
 module _ {S : Type 0} (r : Machine S) (s : ℕ) (l : Ledger) (h : List Moment) (ns : List ℕ) (a : 1 ≤ s) (m : s ≤ station_count)
     (clock : r.memory.fences < 2 ^ 32) (z : SoundAt r l) (y : TimedAt h r) where
-  abbrev After : Doing S (Result Stepped Refusal) → Type 0
+  abbrev After : Doing S (Result (Option Replied) Refusal) → Type 0
   After d = TimedBy r.number h s r.memory ns d
 
   -- a floor that reached P reaches Q
@@ -233,7 +232,7 @@ module _ {S : Type 0} (r : Machine S) (s : ℕ) (l : Ledger) (h : List Moment) (
   Reaches P Q = (f : ℕ) → f ≤ length r.order → flag_at r.order f ≡ true → P f → Q f
 
   -- a step of station s, with its answer and the fences paid
-  stepped_timed : {o' : List Node} (x' : Station) (v : Result Stepped Refusal) (b : ℕ) → Grown s r.order o' → Flagged o' (reply_place v) →
+  stepped_timed : {o' : List Node} (x' : Station) (v : Result (Option Replied) Refusal) (b : ℕ) → Grown s r.order o' → Flagged o' (reply_place v) →
       floor_call (stepped s v b ∷ h) r.number s o' x'.given x'.call →
       Timed r.number (stepped s v b ∷ h) o' (set r.stations (pred s) x')
   stepped_timed x' v b gr fl fc = timed_changed (stepped s v b) x' a m z.many gr
@@ -242,8 +241,8 @@ module _ {S : Type 0} (r : Machine S) (s : ℕ) (l : Ledger) (h : List Moment) (
   -- the call goes on, and has paid for this touch
   floor_goes : {g k k' : ℕ} {op : Op} {o' : List Node} {P Q : ℕ → Type 0} (t : Touch) → Grown s r.order o' → cond (is_fence t) 1 0 + k ≡ k' →
       Reaches P Q → Floor h r.number s g op r.order k P →
-      Floor (stepped s (Ok Going) (paid r.memory (touched t ns r.memory)) ∷ h) r.number s g op o' k' Q
-  floor_goes t gr i f w = floor_more (stepped s (Ok Going) (paid r.memory (touched t ns r.memory))) gr (rw (eq-eqb s s refl))
+      Floor (stepped s (Ok None) (paid r.memory (touched t ns r.memory)) ∷ h) r.number s g op o' k' Q
+  floor_goes t gr i f w = floor_more (stepped s (Ok None) (paid r.memory (touched t ns r.memory))) gr (rw (eq-eqb s s refl))
       (λ e. rw (eq-eqb s s refl, paid_touch t ns r.memory clock, e) i) f w
 
   update_timed : (op : Op) (p : Phase) → (station_at r s).call ≡ calls.Update op p → After (update_step r s (station_at r s) op p)
@@ -252,8 +251,8 @@ module _ {S : Type 0} (r : Machine S) (s : ℕ) (l : Ledger) (h : List Moment) (
       moved : {o' : List Node} (t : Touch) (x' : Station) (p p' : Phase) → x'.call ≡ calls.Update op p' → x'.given ≡ (station_at r s).given →
           Grown s r.order o' → cond (is_fence t) 1 0 + spent_phase p ≡ spent_phase p' → Reaches (update_reach p) (update_reach p') →
           FloorAt h r s (calls.Update op p) →
-          Timed r.number (stepped s (Ok Going) (paid r.memory (touched t ns r.memory)) ∷ h) o' (set r.stations (pred s) x')
-      moved {o'} t x' p p' ec eg gr i f w = stepped_timed x' (Ok Going) (paid r.memory (touched t ns r.memory)) gr (flagged_zero o')
+          Timed r.number (stepped s (Ok None) (paid r.memory (touched t ns r.memory)) ∷ h) o' (set r.stations (pred s) x')
+      moved {o'} t x' p p' ec eg gr i f w = stepped_timed x' (Ok None) (paid r.memory (touched t ns r.memory)) gr (flagged_zero o')
           (rw (ec, eg) (floor_goes t gr i f w))
 
       -- only the phase changes
@@ -293,7 +292,7 @@ module _ {S : Type 0} (r : Machine S) (s : ℕ) (l : Ledger) (h : List Moment) (
     where
       moved : (p p' : QueryPhase) → Reaches (query_reach p) (query_reach p') → FloorAt h r s (calls.Query op p) →
           After (going r s (with_call (station_at r s) (calls.Query op p')) nothing)
-      moved p p' f w = stepped_timed (with_call (station_at r s) (calls.Query op p')) (Ok Going) (paid r.memory r.memory)
+      moved p p' f w = stepped_timed (with_call (station_at r s) (calls.Query op p')) (Ok None) (paid r.memory r.memory)
           (grown_same s r.order) (flagged_zero r.order)
           (floor_goes nothing (grown_same s r.order) refl f w)
 

@@ -21,8 +21,7 @@ use Rattle.model.specs.declared.types.Status.{Status}
 use Rattle.model.specs.declared.types.Status.TheVariants.{Up}
 use Rattle.model.specs.declared.types.Refusal.{Refusal}
 use Rattle.model.specs.declared.types.Refusal.TheVariants.{NoCall}
-use Rattle.model.specs.declared.types.Stepped.{Stepped}
-use Rattle.model.specs.declared.types.Stepped.TheVariants.{Going}
+use Rattle.model.specs.declared.types.Replied.{Replied}
 use Rattle.model.specs.declared.types.Outcome.{Outcome}
 use Rattle.model.proofs.Logs.{Part, stands_of, no_part}
 use Rattle.model.proofs.Memory.{memory_length}
@@ -78,16 +77,16 @@ module _ {S : Type 0} (R : Rules S) (h : List Moment) (r : Machine S) (z : Runs 
 
   module _ (s : ℕ) (ns : List ℕ) where
     -- what is known holds after this step
-    abbrev Goes : Doing S (Result Stepped Refusal) → Type 0
+    abbrev Goes : Doing S (Result (Option Replied) Refusal) → Type 0
     Goes d = Runs R (stepped s d.answer (paid r.memory (left d ns).memory) ∷ h) (left d ns)
 
     module _ (up : r.status ≡ Up) (low : 1 ≤ s) (high : s ≤ station_count) where
-      moved : (a : Result Stepped Refusal) (b : ℕ) (o' : List Node) (x' : Station) (st : S) (m' : Mem) (ps' : List Part) →
+      moved : (a : Result (Option Replied) Refusal) (b : ℕ) (o' : List Node) (x' : Station) (st : S) (m' : Mem) (ps' : List Part) →
           Move R r s o' x' m' z.count z.L z.ps ps' →
           Runs R (stepped s a b ∷ h) (with_memory (with_state (with_station (with_order r o') s x') st) m')
       moved a b o' x' st m' ps' v = runs_move R h r (stepped s a b) s o' x' st m' ps' z live up low high refl (up_to up (stepped s a b)) v
 
-      same : (a : Result Stepped Refusal) (b : ℕ) (x' : Station) (st : S) → x'.used ≡ (station_at r s).used → Matches s x'.used x'.call →
+      same : (a : Result (Option Replied) Refusal) (b : ℕ) (x' : Station) (st : S) → x'.used ≡ (station_at r s).used → Matches s x'.used x'.call →
           Runs R (stepped s a b ∷ h) (with_memory (with_state (with_station (with_order r r.order) s x') st) r.memory)
       same a b x' st e k = moved a b r.order x' st r.memory z.ps (move_stay R h r z up s x' (e ∙ z.used s low high) k)
 
@@ -98,38 +97,38 @@ module _ {S : Type 0} (R : Rules S) (h : List Moment) (r : Machine S) (z : Runs 
 
       update_goes : (op : Op) (x : Phase) → stand_call r.number s r.order (station_at r s).given (calls.Update op x) →
           Matches s (station_at r s).used (calls.Update op x) → Goes (update_step r s (station_at r s) op x)
-      update_goes op Look t k = same (Ok Going) _ _ _ refl (k.0, k.1)
+      update_goes op Look t k = same (Ok None) _ _ _ refl (k.0, k.1)
       update_goes op (Place n) t k =
           cond_both (eqb (length r.order) n) _ _ Goes
-          (λ f. moved (Ok Going) _ _ _ _ r.memory z.ps
+          (λ f. moved (Ok None) _ _ _ _ r.memory z.ps
           (move_place R h r s z live up low high op k.0.0 k.0.1 k.1 t.0 n (eqb-true (length r.order) n f)))
-          (λ f. same (Ok Going) _ _ _ refl (k.0, k.1))
+          (λ f. same (Ok None) _ _ _ refl (k.0, k.1))
       update_goes op (Walk q u) t k =
           cond_both (flag_at r.order q) _ _ Goes
-          (λ f. moved (Ok Going) _ r.order _ _ r.memory _
+          (λ f. moved (Ok None) _ r.order _ _ r.memory _
           (move_begin R h r s z live up low high op q u t.1.0 t.1.1 f k.0.2 k.0.0 k.0.1 k.1))
-          (λ f. same (Ok Going) _ _ _ refl ((k.0.0, k.0.1, back q f), k.1))
+          (λ f. same (Ok None) _ _ _ refl ((k.0.0, k.0.1, back q f), k.1))
       update_goes op (Write own m i) t k =
           let m' = touched (write_touch r s own m i) ns r.memory in
           cond_both (eqb (i + 1) (10 * m)) (Fence own m) (Write own m (i + 1))
-          (λ (x : Phase). Runs R (stepped s (Ok Going) (paid r.memory m') ∷ h)
+          (λ (x : Phase). Runs R (stepped s (Ok None) (paid r.memory m') ∷ h)
           (with_memory (with_station r s (with_call (station_at r s) (calls.Update op x))) m'))
-          (λ f. moved (Ok Going) _ r.order _ r.state _ _
+          (λ f. moved (Ok None) _ r.order _ r.state _ _
           (move_write R h r s z live up low high op own m i (Fence own m) ns k.0.0 k.0.1 k.0.2 t.1.4 k.1
           (k.0.0, (let e = eqb-true (i + 1) (10 * m) f in omega arith))))
-          (λ f. moved (Ok Going) _ r.order _ r.state _ _
+          (λ f. moved (Ok None) _ r.order _ r.state _ _
           (move_write R h r s z live up low high op own m i (Write own m (i + 1)) ns k.0.0 k.0.1 k.0.2 t.1.4 k.1
           (k.0.0, omega (arith, k.0.1), k.0.2)))
       update_goes op (Fence own m) t k =
-          moved (Ok Going) _ r.order _ r.state _ _ (move_fence R h r s z live up low high op own m ns k.0.0 k.0.1 k.1)
+          moved (Ok None) _ r.order _ r.state _ _ (move_fence R h r s z live up low high op own m ns k.0.0 k.0.1 k.1)
       update_goes op (Flag own) t k =
-          moved (Ok Going) _ _ _ r.state r.memory z.ps (move_flag R h r s z live up low high op own t.1 k.0.0 k.0.1 k.1)
+          moved (Ok None) _ _ _ r.state r.memory z.ps (move_flag R h r s z live up low high op own t.1 k.0.0 k.0.1 k.1)
       update_goes op (Answer p) t k = same _ _ _ _ refl k.0
 
       query_goes : (op : Op) (x : QueryPhase) → (get_or z.ps (pred s) no_part).begun ≡ None → Goes (query_step r s (station_at r s) op x)
-      query_goes op query.Look k = same (Ok Going) _ _ _ refl k
+      query_goes op query.Look k = same (Ok None) _ _ _ refl k
       query_goes op (query.Walk q u) k =
-          cond_both (flag_at r.order q) _ _ Goes (λ f. same (Ok Going) _ _ _ refl k) (λ f. same (Ok Going) _ _ _ refl k)
+          cond_both (flag_at r.order q) _ _ Goes (λ f. same (Ok None) _ _ _ refl k) (λ f. same (Ok None) _ _ _ refl k)
       query_goes op (query.Answer p) k = same _ _ _ _ refl k
 
       goes : (c : Call) → (station_at r s).call ≡ c → Goes (station_step r s (station_at r s) c)

@@ -1,5 +1,5 @@
 -- The rules at work, on the lazy memory: examples that the definitions compute.
-use Rattle.std.specs.Prelude.{◌≡◌, ℕ, zero, suc, List, [], ◌∷◌, replicate, Some, None, Ok, Err, Result}
+use Rattle.std.specs.Prelude.{◌≡◌, ℕ, zero, suc, List, [], ◌∷◌, replicate, Some, None, Ok, Err, Result, Option}
 use Rattle.memory.specs.Model.{Mem, blank, settled_line, with_line, pushed, marked, cut, chosen}
 use Rattle.memory.specs.Lazy.{early_count}
 use Rattle.book.specs.Rules.{Rules}
@@ -9,13 +9,12 @@ use Rattle.book.specs.declared.types.Op.{Op}
 use Rattle.book.specs.declared.types.SlotsRequest.TheVariants.{Reserve, Cancel}
 use Rattle.book.specs.declared.types.TallyRequest.TheVariants.{Add, Read}
 use Rattle.model.specs.Journal.{last_place, entry_line}
-use Rattle.model.specs.Machine.{Machine, Doing, Touch, left, started, start_answer, start_question, rising, calling, stepping, telling, with_order, flagged, no_update, named}
+use Rattle.model.specs.Machine.{done_at, Machine, Doing, Touch, left, started, start_answer, start_question, rising, calling, stepping, telling, with_order, flagged, no_update, named, reply_given}
 use Rattle.model.specs.Machine.Touch.{nothing, store, write_back, fence}
-use Rattle.model.specs.declared.types.Outcome.TheVariants.{Done, Open, Never}
+use Rattle.model.specs.declared.types.Outcome.TheVariants.{Open, Never}
 use Rattle.model.specs.declared.types.Refusal.{Refusal}
 use Rattle.model.specs.declared.types.Refusal.TheVariants.{LineCount, RunNumber, MissingPlace, Disagreement, NotAnUpdate, NotRising, NoStation, NotUp, Busy, NoSort, OrderFull, LogFull, NoCall, NoIdentity}
-use Rattle.model.specs.declared.types.Stepped.{Stepped}
-use Rattle.model.specs.declared.types.Stepped.TheVariants.{Going, Replied}
+use Rattle.model.specs.declared.types.Replied.{Replied}
 use Rattle.model.specs.declared.types.Update.{Update}
 
 -- what the lazy memory settles early at a touch
@@ -44,7 +43,7 @@ steps s zero r = r
 steps s (suc n) r = steps s n (then' (stepping r s))
 
 -- the answer of the step after these
-abbrev pub next_step : {S : Type 0} → ℕ → Machine S → Result Stepped Refusal
+abbrev pub next_step : {S : Type 0} → ℕ → Machine S → Result (Option Replied) Refusal
 next_step s r = (stepping r s).answer
 
 -- a line of a memory laid by hand
@@ -117,21 +116,21 @@ overtaken = steps 1 2 (steps 2 1 (call 2 (tally_op (Add 7)) adding))
 
 pub record Worked : Type 0 where
   -- one addition takes seventeen steps and replies at place 1
-  pub adds : next_step 1 (steps 1 16 adding) ≡ Ok (Replied 1 (0, 5))
-  pub goes_on : next_step 1 (steps 1 15 adding) ≡ Ok Going
+  pub adds : next_step 1 (steps 1 16 adding) ≡ Ok (reply_given 1 (0, 5))
+  pub goes_on : next_step 1 (steps 1 15 adding) ≡ Ok None
   -- cut after its line was stored: nine stores kept make the entry, eight do not; after the fence none need be kept
   pub nine_kept : last_place (cut (0 ∷ 9 ∷ []) (steps 1 13 adding).memory) ≡ 1
   pub eight_kept : last_place (cut (0 ∷ 8 ∷ []) (steps 1 13 adding).memory) ≡ 0
   pub fenced : last_place (cut [] (steps 1 15 adding).memory) ≡ 1
   -- a query reads below what is not flagged: place 0 here; a cut still finds the two updates that were written
-  pub reads_flagged : next_step 4 (steps 4 5 reading) ≡ Ok (Replied 0 (0, 0))
-  pub reads_on : next_step 4 (steps 4 4 reading) ≡ Ok Going
+  pub reads_flagged : next_step 4 (steps 4 5 reading) ≡ Ok (reply_given 0 (0, 0))
+  pub reads_on : next_step 4 (steps 4 4 reading) ≡ Ok None
   pub cut_finds : last_place (cut [] (steps 4 6 reading).memory) ≡ 2
   -- the next run knows what became of them
-  pub was_done : (telling after_cut 1 1 1).answer ≡ Ok (Done 1 (0, 1))
+  pub was_done : (telling after_cut 1 1 1).answer ≡ Ok (done_at 1 (0, 1))
   pub was_lost : (telling after_cut 1 3 1).answer ≡ Ok Never
   -- a late cancellation finds no booking
-  pub late_cancel : next_step 4 (steps 4 16 rebooked) ≡ Ok (Replied 4 (2, 1))
+  pub late_cancel : next_step 4 (steps 4 16 rebooked) ≡ Ok (reply_given 4 (2, 1))
   -- memories of 57 lines are refused, of 65 taken
   pub too_small : start_question tally_rules (blank 57) ≡ Some LineCount
   pub large_enough : start_question tally_rules (blank 65) ≡ None
@@ -154,11 +153,11 @@ pub record Worked : Type 0 where
   pub order_full : (calling (long_order 256) 1 (tally_op (Add 1))).answer ≡ Err OrderFull
   pub called_counts : (calling (call 2 (tally_op (Add 1)) (long_order 255)) 1 (tally_op (Add 1))).answer ≡ Err OrderFull
   -- a place that fails looks again: two steps more
-  pub fails_once : next_step 2 (steps 2 18 overtaken) ≡ Ok Going
-  pub answers_after : next_step 2 (steps 2 28 overtaken) ≡ Ok (Replied 2 (0, 12))
+  pub fails_once : next_step 2 (steps 2 18 overtaken) ≡ Ok None
+  pub answers_after : next_step 2 (steps 2 28 overtaken) ≡ Ok (reply_given 2 (0, 12))
   -- an update of this run is open until its flag is set, then done
   pub still_open : (telling (steps 1 15 adding) 1 1 1).answer ≡ Ok Open
-  pub now_done : (telling (steps 1 16 adding) 1 1 1).answer ≡ Ok (Done 1 (0, 5))
+  pub now_done : (telling (steps 1 16 adding) 1 1 1).answer ≡ Ok (done_at 1 (0, 5))
   -- the refusals of a run
   pub not_rising : (rising tally tally.status).answer ≡ Err NotRising
   pub no_station : (calling (started tally_rules small) 9 bad).answer ≡ Err NoStation

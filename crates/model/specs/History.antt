@@ -6,14 +6,12 @@ use Rattle.book.specs.declared.types.Op.{Op}
 use Rattle.book.specs.Rules.{Rules, Reply}
 use Rattle.model.specs.Journal.{station_count, min_log, max_log}
 use Rattle.model.specs.Machine as machine
-use Rattle.model.specs.Machine.{Machine, start_answer, rising, calling, stepping, telling, left, found}
+use Rattle.model.specs.Machine.{done_at, Machine, start_answer, rising, calling, stepping, telling, left, found, reply_given}
 use Rattle.model.specs.declared.types.Update.{Update}
 use Rattle.model.specs.declared.types.Refusal.{Refusal}
 use Rattle.model.specs.declared.types.Started.{Started}
-use Rattle.model.specs.declared.types.Stepped.{Stepped}
-use Rattle.model.specs.declared.types.Stepped.TheVariants.{Going, Replied}
+use Rattle.model.specs.declared.types.Replied.{Replied}
 use Rattle.model.specs.declared.types.Outcome.{Outcome}
-use Rattle.model.specs.declared.types.Outcome.TheVariants.{Done}
 
 -- What can come
 
@@ -23,7 +21,7 @@ pub data Moment : Type 0 where
   started : Result Started Refusal → Moment
   risen : Result Unit Refusal → Moment
   called : ℕ → Op → Result ℕ Refusal → Moment  -- station, operation
-  stepped : ℕ → Result Stepped Refusal → ℕ → Moment  -- station
+  stepped : ℕ → Result (Option Replied) Refusal → ℕ → Moment  -- station
   told : ℕ → ℕ → ℕ → Result Outcome Refusal → Moment  -- run, station, call number
   cut : ℕ → Moment
 
@@ -57,8 +55,8 @@ Came h x e = (l : List Moment) × (h ≡ l ++ x ∷ e)
 
 -- the moment tells that the updates up to this place are done
 pub data Tells : Moment → ℕ → Type 0 where
-  by_reply : {s p : ℕ} {v : Reply} {b : ℕ} → Tells (stepped s (Ok (Replied p v)) b) p
-  by_done : {run s n p : ℕ} {v : Reply} → Tells (told run s n (Ok (Done p v))) p
+  by_reply : {s p : ℕ} {v : Reply} {b : ℕ} → Tells (stepped s (Ok (reply_given p v)) b) p
+  by_done : {run s n p : ℕ} {v : Reply} → Tells (told run s n (Ok (done_at p v))) p
 
 -- The ledger
 
@@ -134,9 +132,9 @@ pub record Made : Type 0 where
   pub op : Op
   pub before : List Moment
 
-abbrev pub open_after : Result Stepped Refusal → Option Made → Option Made
-open_after (Ok Going) c = c
-open_after (Ok (Replied p v)) c = None
+abbrev pub open_after : Result (Option Replied) Refusal → Option Made → Option Made
+open_after (Ok None) c = c
+open_after (Ok (Some x)) c = None
 open_after (Err q) c = c
 
 -- the open call of station s: its newest, unless it was replied to or a start or a cut came since

@@ -6,7 +6,7 @@ use Rattle.memory.specs.Model.{Mem}
 use Rattle.book.specs.declared.types.Op.{Op}
 use Rattle.book.specs.Rules.{Rules, Reply, apply_reply, ask_reply, after}
 use Rattle.model.specs.Journal.{max_run, max_lines, station_count, logs}
-use Rattle.model.specs.Machine.{Machine, no_update, found}
+use Rattle.model.specs.Machine.{done_at, Machine, no_update, found, reply_given}
 use Rattle.model.specs.History.{Moment, World, Led, Came, Tells, ledger, updates, found_count, Made, newest, fences_since}
 use Rattle.model.specs.History.Moment.{started, called, stepped, told, cut}
 use Rattle.model.specs.History.World.{resting, running}
@@ -22,9 +22,8 @@ use Rattle.model.specs.declared.types.Refusal.TheVariants.{RunNumber}
 use Rattle.model.specs.declared.types.Started.{Started}
 use Rattle.model.specs.declared.types.Status.{Status}
 use Rattle.model.specs.declared.types.Status.TheVariants.{Rising, Up, Shut}
-use Rattle.model.specs.declared.types.Stepped.TheVariants.{Replied}
 use Rattle.model.specs.declared.types.Outcome.{Outcome}
-use Rattle.model.specs.declared.types.Outcome.TheVariants.{Done, Open}
+use Rattle.model.specs.declared.types.Outcome.TheVariants.{Open}
 
 -- The ledger is what is kept
 
@@ -80,15 +79,15 @@ identity u = (u.run, u.station, u.call)
 
 pub record Linearizable {S : Type 0} (R : Rules S) (h : List Moment) : Type 0 where
   -- every reply ever given answers its station's open call, and is the ledger's as it is now
-  pub replied : (s p : ℕ) (v : Reply) (b : ℕ) (e : List Moment) → Came h (stepped s (Ok (Replied p v)) b) e →
+  pub replied : (s p : ℕ) (v : Reply) (b : ℕ) (e : List Moment) → Came h (stepped s (Ok (reply_given p v)) b) e →
       (c : Made) × (newest e s ≡ Some c) × holds_call (updates h) s c p × (v ≡ reply_of R (updates h) c.number c.op p)
   -- and so is every outcome told done
-  pub outcomes : (run s n p : ℕ) (v : Reply) (e : List Moment) → Came h (told run s n (Ok (Done p v))) e →
+  pub outcomes : (run s n p : ℕ) (v : Reply) (e : List Moment) → Came h (told run s n (Ok (done_at p v))) e →
       (1 ≤ p) × (p ≤ length (updates h)) × (identity (update_at (updates h) p) ≡ (run, s, n))
       × (v ≡ apply_reply R (state_at R (updates h) (pred p)) (update_at (updates h) p).op)
   -- a place told before a call was made is not above the place of its reply, and below it if the call is an update
   pub ordered : (s p : ℕ) (v : Reply) (b : ℕ) (e : List Moment) (c : Made) (x : Moment) (q : ℕ) (f : List Moment) →
-      Came h (stepped s (Ok (Replied p v)) b) e → newest e s ≡ Some c → Came c.before x f → Tells x q →
+      Came h (stepped s (Ok (reply_given p v)) b) e → newest e s ≡ Some c → Came c.before x f → Tells x q →
       (q ≤ p) × (1 ≤ c.number → q < p)
 
 -- Identities and outcomes
@@ -100,22 +99,22 @@ pub record Identified (h : List Moment) : Type 0 where
   pub distinct : (i j : ℕ) → 1 ≤ i → i < j → j ≤ length (updates h) → identity (update_at (updates h) i) ≢ identity (update_at (updates h) j)
   -- of an earlier run, done is told exactly for the updates that the start found, and none otherwise
   pub earlier : (run s n : ℕ) (a : Outcome) (e : List Moment) → Came h (told run s n (Ok a)) e → run < (ledger e).run →
-      ((p : ℕ) → 1 ≤ p → p ≤ found_count e → identity (update_at (updates e) p) ≡ (run, s, n) → (q : ℕ) × (v : Reply) × (a ≡ Done q v))
-      × ((q : ℕ) (v : Reply) → a ≡ Done q v → (1 ≤ q) × (q ≤ found_count e) × (identity (update_at (updates e) q) ≡ (run, s, n)))
+      ((p : ℕ) → 1 ≤ p → p ≤ found_count e → identity (update_at (updates e) p) ≡ (run, s, n) → (q : ℕ) × (v : Reply) × (a ≡ done_at q v))
+      × ((q : ℕ) (v : Reply) → a ≡ done_at q v → (1 ≤ q) × (q ≤ found_count e) × (identity (update_at (updates e) q) ≡ (run, s, n)))
       × (a ≢ Open)
   -- what was told done or none is never told otherwise
   pub steady : (run s n : ℕ) (a b : Outcome) (e₁ e₂ : List Moment) →
       Came h (told run s n (Ok b)) e₂ → Came e₂ (told run s n (Ok a)) e₁ → (a ≢ Open) → b ≡ a
   -- an update that was replied to is told done, with the same place and reply
   pub answered : (s p : ℕ) (v : Reply) (b : ℕ) (a : Outcome) (c : Made) (e f : List Moment) →
-      Came h (told c.run s c.number (Ok a)) e → Came e (stepped s (Ok (Replied p v)) b) f → newest f s ≡ Some c → 1 ≤ c.number → a ≡ Done p v
+      Came h (told c.run s c.number (Ok a)) e → Came e (stepped s (Ok (reply_given p v)) b) f → newest f s ≡ Some c → 1 ≤ c.number → a ≡ done_at p v
 
 -- Costs and bounds
 
 -- an update that was replied to has cost one fence by the memory's own count, a query none
 abbrev pub OneFence : List Moment → Type 0
-OneFence h = (s p : ℕ) (v : Reply) (b : ℕ) (e : List Moment) (c : Made) → Came h (stepped s (Ok (Replied p v)) b) e → newest e s ≡ Some c →
-    fences_since (stepped s (Ok (Replied p v)) b ∷ e) s ≡ min 1 c.number
+OneFence h = (s p : ℕ) (v : Reply) (b : ℕ) (e : List Moment) (c : Made) → Came h (stepped s (Ok (reply_given p v)) b) e → newest e s ≡ Some c →
+    fences_since (stepped s (Ok (reply_given p v)) b ∷ e) s ≡ min 1 c.number
 
 -- a walk finds at most eight places unset, a query's at most seven, and an entry has one to eight lines
 abbrev pub bounded_phase : Phase → Type 0

@@ -7,6 +7,7 @@ use Rattle.book.specs.declared.types.Sort.TheVariants as sorts
 use Rattle.book.specs.Rules.{Rules, Reply, is_update, apply_reply, ask_reply, after}
 use Rattle.model.specs.Journal.{max_run, max_place, max_lines, station_count, min_log, max_log, within, word, entry_line, update_in, Entry, used_lines, log_length, log_start, logs, last_place, holding, agree}
 use Rattle.model.specs.declared.types.Update.{Update}
+use Rattle.model.specs.declared.types.Identity.{Identity}
 use Rattle.model.specs.declared.types.Node.{Node}
 use Rattle.model.specs.declared.types.Phase.{Phase}
 use Rattle.model.specs.declared.types.Phase.TheVariants.{Look, Place, Walk, Write, Fence, Flag, Answer}
@@ -21,8 +22,7 @@ use Rattle.model.specs.declared.types.Rise.TheVariants as rises
 use Rattle.model.specs.declared.types.Status.{Status}
 use Rattle.model.specs.declared.types.Status.TheVariants.{Rising, Up, Shut}
 use Rattle.model.specs.declared.types.Started.{Started}
-use Rattle.model.specs.declared.types.Stepped.{Stepped}
-use Rattle.model.specs.declared.types.Stepped.TheVariants.{Going, Replied}
+use Rattle.model.specs.declared.types.Replied.{Replied}
 use Rattle.model.specs.declared.types.Outcome.{Outcome}
 use Rattle.model.specs.declared.types.Outcome.TheVariants.{Done, Open, Never}
 
@@ -299,14 +299,22 @@ write_touch r s own m stage =
     let l = log_start (log_length r.memory) s + (station_at r s).used + t in
     cond (j == 0) (store l 7 0) (cond (nat_lt j 9) (store l (pred j) (word (target_line r own m t) (pred j))) (write_back l))
 
-abbrev pub going : {S : Type 0} → Machine S → ℕ → Station → Touch → Doing S (Result Stepped Refusal)
-going r s x touch = record { answer = Ok Going; machine = with_station r s x; touch = touch }
+-- the answer of a step that replies
+abbrev pub reply_given : ℕ → Reply → Option Replied
+reply_given p v = Some (record { place = p; reply = v })
+
+-- an update that is done, at this place
+abbrev pub done_at : ℕ → Reply → Outcome
+done_at p v = Done (record { place = p; reply = v })
+
+abbrev pub going : {S : Type 0} → Machine S → ℕ → Station → Touch → Doing S (Result (Option Replied) Refusal)
+going r s x touch = record { answer = Ok None; machine = with_station r s x; touch = touch }
 
 -- the reply, at its place: the station is idle, and the book is left after the updates to the place
-abbrev pub replied : {S : Type 0} → Machine S → ℕ → Station → ℕ → Reply → Doing S (Result Stepped Refusal)
-replied r s x p v = record { answer = Ok (Replied p v); machine = with_state (with_station r s (with_call x calls.Idle)) (state_after r.rules r.order p); touch = nothing }
+abbrev pub replied : {S : Type 0} → Machine S → ℕ → Station → ℕ → Reply → Doing S (Result (Option Replied) Refusal)
+replied r s x p v = record { answer = Ok (reply_given p v); machine = with_state (with_station r s (with_call x calls.Idle)) (state_after r.rules r.order p); touch = nothing }
 
-abbrev pub update_step : {S : Type 0} → Machine S → ℕ → Station → Op → Phase → Doing S (Result Stepped Refusal)
+abbrev pub update_step : {S : Type 0} → Machine S → ℕ → Station → Op → Phase → Doing S (Result (Option Replied) Refusal)
 update_step r s x o Look = going r s (with_call x (calls.Update o (Place (length r.order)))) nothing
 update_step r s x o (Place n) =
     cond (length r.order == n)
@@ -322,7 +330,7 @@ update_step r s x o (Fence own m) = going r s (record { call = calls.Update o (F
 update_step r s x o (Flag own) = going (with_order r (set_flag r.order own)) s (with_call x (calls.Update o (Answer own))) nothing
 update_step r s x o (Answer own) = replied r s x own (reply_at r.rules r.order own)
 
-abbrev pub query_step : {S : Type 0} → Machine S → ℕ → Station → Op → QueryPhase → Doing S (Result Stepped Refusal)
+abbrev pub query_step : {S : Type 0} → Machine S → ℕ → Station → Op → QueryPhase → Doing S (Result (Option Replied) Refusal)
 query_step r s x o query.Look = going r s (with_call x (calls.Query o (query.Walk (length r.order) 0))) nothing
 query_step r s x o (query.Walk p u) =
     cond (flag_at r.order p)
@@ -330,16 +338,16 @@ query_step r s x o (query.Walk p u) =
     (going r s (with_call x (calls.Query o (query.Walk (pred p) (u + 1)))) nothing)
 query_step r s x o (query.Answer p) = replied r s x p (ask_reply r.rules (state_after r.rules r.order p) o)
 
-abbrev pub station_step : {S : Type 0} → Machine S → ℕ → Station → Call → Doing S (Result Stepped Refusal)
+abbrev pub station_step : {S : Type 0} → Machine S → ℕ → Station → Call → Doing S (Result (Option Replied) Refusal)
 station_step r s x calls.Idle = refused r NoCall
 station_step r s x (calls.Update o p) = update_step r s x o p
 station_step r s x (calls.Query o p) = query_step r s x o p
 
-abbrev pub stepping_by : {S : Type 0} → Option Refusal → Machine S → ℕ → Doing S (Result Stepped Refusal)
+abbrev pub stepping_by : {S : Type 0} → Option Refusal → Machine S → ℕ → Doing S (Result (Option Replied) Refusal)
 stepping_by (Some q) r s = refused r q
 stepping_by None r s = station_step r s (station_at r s) (station_at r s).call
 
-abbrev pub stepping : {S : Type 0} → Machine S → ℕ → Doing S (Result Stepped Refusal)
+abbrev pub stepping : {S : Type 0} → Machine S → ℕ → Doing S (Result (Option Replied) Refusal)
 stepping r s = stepping_by (shut_first r.status (station_question r s)) r s
 
 -- Outcome
@@ -351,6 +359,9 @@ highest_from best p (n ∷ ns) = highest_from (cond n.flagged p best) (p + 1) ns
 -- the highest flagged place
 abbrev pub highest_flag : List Node → ℕ
 highest_flag o = highest_from 0 1 o
+
+abbrev pub identity_of : Update → Identity
+identity_of u = record { run = u.run; station = u.station; call = u.call }
 
 abbrev pub has_identity : Update → ℕ → ℕ → ℕ → Bool
 has_identity u run s call = u.run == run && (u.station == s && u.call == call)
@@ -366,7 +377,7 @@ known r run s call = within 1 run r.number && (within 1 call max_place && cond (
 
 abbrev pub told : {S : Type 0} → Machine S → ℕ → Option ℕ → Doing S (Result Outcome Refusal)
 told r run None = record { answer = Ok (cond (run == r.number) Open Never); machine = r; touch = nothing }
-told r run (Some p) = record { answer = Ok (Done p (reply_at r.rules r.order p)); machine = with_state r (state_after r.rules r.order p); touch = nothing }
+told r run (Some p) = record { answer = Ok (done_at p (reply_at r.rules r.order p)); machine = with_state r (state_after r.rules r.order p); touch = nothing }
 
 abbrev pub telling_by : {S : Type 0} → Option Refusal → Machine S → ℕ → ℕ → ℕ → Doing S (Result Outcome Refusal)
 telling_by (Some q) r run s call = refused r q

@@ -4,15 +4,27 @@
 ghost use Rattle.std.specs.Prelude.{◌≡◌};
 ghost use Rattle.model.specs.Examples.{Worked};
 ghost use Rattle.model.specs.Law.{Lasting};
-ghost use Rattle.model.specs.Machine.{named};
+ghost use Rattle.model.specs.Machine.{named, identity_of};
 
 mod types;
 
 use book::Book;
 pub use types::{
-    Call, Node, Outcome, Phase, QueryPhase, Refusal, Rise, Started, Station, Status, Stepped,
-    Update,
+    Call, Identity, Node, Outcome, Phase, QueryPhase, Refusal, Replied, Rise, Started, Station,
+    Status, Update,
 };
+
+impl Update {
+    pub fn identity(&self) -> Identity
+        ensures { result ≡ identity_of self.now }
+    {
+        Identity {
+            run: self.run,
+            station: self.station,
+            call: self.call,
+        }
+    }
+}
 
 impl Refusal {
     // Its number, and the detail that it carries, or 0.
@@ -39,11 +51,13 @@ impl Refusal {
 }
 
 // The examples that the definitions compute.
+#[tactic(auto, using(crate::proofs::Examples::worked))]
 pub fn worked_examples()
     ensures { Worked }
 {}
 
 // The law: what holds after every list of starts, rises, calls, steps, outcomes and cuts, for books of the same rules.
+#[tactic(auto, using(crate::proofs::Lasting::lasting))]
 pub fn lasts<B: Book>(book: &B)
     ensures { Lasting (B.Book.rules book.now) }
 {}

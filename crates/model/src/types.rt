@@ -1,7 +1,15 @@
 use book::Op;
 
-// An update with its identity: the run and the station that made it, and its number among that station's updates.
-#[derive(Clone, Copy)]
+// An identity: the run and the station that made an update, and its number among that station's updates.
+#[derive(Clone, Copy, PartialEq, Debug)]
+pub struct Identity {
+    pub run: u64,
+    pub station: u64,
+    pub call: u64,
+}
+
+// An update with its identity.
+#[derive(Clone, Copy, PartialEq, Debug, Default)]
 pub struct Update {
     pub run: u64,
     pub station: u64,
@@ -10,7 +18,7 @@ pub struct Update {
 }
 
 // A place of the order: its update, and whether a flag says that the update and all below it are in the journal.
-#[derive(Clone, Copy)]
+#[derive(Clone, Copy, Default)]
 pub struct Node {
     pub update: Update,
     pub flagged: bool,
@@ -92,17 +100,17 @@ pub struct Started {
     pub found: u64,
 }
 
-// What a step tells: to go on, or the reply and its place.
+// A reply, and its place in the order.
 #[derive(Clone, Copy)]
-pub enum Stepped {
-    Going,
-    Replied { place: u64, reply: (u64, u64) },
+pub struct Replied {
+    pub place: u64,
+    pub reply: (u64, u64),
 }
 
 // What became of an update.
 #[derive(Clone, Copy)]
 pub enum Outcome {
-    Done { place: u64, reply: (u64, u64) },
+    Done(Replied),
     Open,
     Never,
 }

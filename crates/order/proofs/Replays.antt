@@ -1,11 +1,11 @@
 -- The state after the first updates of an order, one update at a time.
-use Rattle.std.proofs.Common.{◌≡◌, ℕ, ◌+◌, ◌<◌, min, List, [], ◌∷◌, ◌++◌, length, get_or, take, sym, refl, ap, ◌∙◌, inl, inr, add-one, arith}
+use Rattle.std.proofs.Common.{◌≡◌, ℕ, zero, suc, ◌+◌, ◌-◌, ◌<◌, ◌≤◌, min, List, [], ◌∷◌, ◌++◌, length, get_or, take, sym, refl, ap, ◌∙◌, inl, inr, arith}
 use Rattle.std.proofs.lemmas.List.{take_more, take_all}
 use Rattle.std.proofs.lemmas.Bool.{cases_lt}
 use Rattle.book.specs.declared.types.Op.{Op}
-use Rattle.book.specs.Rules.{Rules, applied, apply_reply, after}
+use Rattle.book.specs.Rules.{Rules, applied, after}
 use Rattle.model.specs.declared.types.Node.{Node}
-use Rattle.model.specs.Machine.{no_node, ops, state_after, reply_at}
+use Rattle.model.specs.Machine.{no_node, node_at, ops, state_after}
 
 module _ {S : Type 0} (R : Rules S) where
   after_push : (s : S) (os : List Op) (o : Op) → after R s (os ++ o ∷ []) ≡ applied R (after R s os) o
@@ -22,8 +22,10 @@ module _ {S : Type 0} (R : Rules S) where
       ∙ ap (after R R.first) (ops_push (take i xs) (get_or xs i no_node))
       ∙ after_push R.first (ops (take i xs)) (get_or xs i no_node).update.op
 
-  pub reply_next : (xs : List Node) (i : ℕ) → reply_at R xs (i + 1) ≡ apply_reply R (state_after R xs i) (get_or xs i no_node).update.op
-  reply_next xs i = ap (reply_at R xs) (add-one i)
+  -- the update at a place makes the state after it of the state before
+  pub state_at : (xs : List Node) (p : ℕ) → 1 ≤ p → p ≤ length xs → state_after R xs p ≡ applied R (state_after R xs (p - 1)) (node_at xs p).update.op
+  state_at xs zero low h = absurd (omega arith)
+  state_at xs (suc p) low h = let e : suc p - 1 ≡ p = omega arith in let n : suc p ≡ p + 1 = omega arith in rw e (ap (state_after R xs) n ∙ state_more xs p h)
 
   -- more updates than there are come to all
   pub state_all : (xs : List Node) (n count : ℕ) → n ≡ min (length xs) count → state_after R xs n ≡ state_after R xs count

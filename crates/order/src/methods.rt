@@ -1,97 +1,62 @@
-ghost use Rattle.std.specs.Prelude.{◌≡◌, ◌<◌, true, [], ◌∷◌, ◌++◌, length, get_or, take, if◌then◌else◌, Some, None, nat_lt, slice_index_or, slice_set};
+ghost use Rattle.std.specs.Prelude.{◌≡◌, ◌<◌, true, [], ◌∷◌, ◌++◌, length, take, IfSome, if◌then◌else◌, Ok, Err, nat_lt};
+ghost use Rattle.std.specs.List.{position};
 ghost use Rattle.model.specs.Journal.{max_place};
-ghost use Rattle.model.specs.Machine.{no_node, node_at, flag_at, set_flag, highest_flag, has_identity, place_of, state_after, reply_at};
-ghost use Rattle.order.specs.Places.{places};
+ghost use Rattle.model.specs.declared.types.Refusal.TheVariants.{OrderFull};
+ghost use Rattle.model.specs.Machine.{node_at, flag_at, set_flag, highest_flag, has_identity, place_of};
 
 use super::types::Order;
-use book::{Book, Op};
-use model::{Node, Update};
+use arrayvec::ArrayVec;
+use model::{Identity, Node, Refusal};
 
-// What stands at a place that is not there.
-const NO_NODE: Node = Node {
-    update: Update {
-        run: 0,
-        station: 0,
-        call: 0,
-        op: Op {
-            code: 0,
-            argument: 0,
-        },
-    },
-    flagged: false,
-};
-
-// The higher of two places, where the later one counts only if it is flagged.
-fn higher(best: u64, place: u64, node: Node) -> u64
-    ensures { result ≡ (if node.flagged then place else best) }
+fn is_of(node: &Node, sought: Identity) -> bool
+    ensures { result ≡ has_identity node.now.update sought.run sought.station sought.call }
 {
-    if node.flagged { place } else { best }
+    node.update.identity() == sought
 }
 
-fn is_of(node: Node, run: u64, station: u64, call: u64) -> bool
-    ensures { result ≡ has_identity node.update run station call }
+// The index of the first node that holds the update of this identity.
+fn index_of(nodes: &[Node], sought: Identity) -> Option<usize>
+    ensures value { result ≡ position (λ n. has_identity n.update sought.run sought.station sought.call) nodes.now }
+    ensures within { IfSome result (λ i. i < length nodes.now) }
 {
-    node.update.run == run && node.update.station == station && node.update.call == call
+    nodes.iter().position(|node| is_of(node, sought))
 }
 
 impl Order {
     pub fn new() -> Self
-        ensures { places result ≡ [] }
+        ensures { result ≡ [] }
     {
         Order {
-            nodes: [NO_NODE; 256],
-            count: 0,
+            nodes: ArrayVec::new(),
         }
     }
 
     // How many places there are.
     pub fn len(&self) -> u64
-        ensures { result ≡ length (places self.now) }
+        ensures { result ≡ length self.now }
     {
-        self.count as u64
+        self.nodes.len() as u64
     }
 
-    fn append(&mut self, node: Node)
-        requires { self.old.count < 256 }
-        ensures { places self.new ≡ places self.old ++ (node ∷ []) }
+    // Adds a place at the end, if there is room.
+    pub fn push(&mut self, node: Node) -> Result<(), Refusal>
+        ensures answer { result ≡ (if nat_lt (length self.old) max_place then Ok tt else Err OrderFull) }
+        ensures after { self.new ≡ (if nat_lt (length self.old) max_place then self.old ++ (node ∷ []) else self.old) }
     {
-        let at = self.count;
-        self.nodes[at] = node;
-        self.count = at + 1;
+        self.nodes.try_push(node).map_err(|_| Refusal::OrderFull)
     }
 
-    // Adds a place at the end, and tells whether there was room.
-    pub fn push(&mut self, node: Node) -> bool
-        ensures room { result ≡ nat_lt (length (places self.old)) max_place }
-        ensures after { places self.new ≡ (if result then places self.old ++ (node ∷ []) else places self.old) }
-    {
-        if self.count >= 256 {
-            return false;
-        }
-        self.append(node);
-        true
-    }
-
-    fn node_in(&self, at: usize) -> Node
-        ensures { result ≡ slice_index_or (places self.now) at no_node }
-    {
-        if at < self.count {
-            self.nodes[at]
-        } else {
-            NO_NODE
-        }
-    }
-
-    // The node at a place.
+    // The node at a place, a blank one where there is none.
     pub fn node(&self, place: u64) -> Node
-        ensures { result ≡ node_at (places self.now) place }
+        ensures { result ≡ node_at self.now place }
     {
-        self.node_in(place.saturating_sub(1) as usize)
+        let at = place.saturating_sub(1) as usize;
+        self.nodes.get(at).copied().unwrap_or_default()
     }
 
     // Whether a place is flagged; place 0 always is.
     pub fn is_flagged(&self, place: u64) -> bool
-        ensures { result ≡ flag_at (places self.now) place }
+        ensures { result ≡ flag_at self.now place }
     {
         match place {
             0 => true,
@@ -99,49 +64,50 @@ impl Order {
         }
     }
 
-    fn flag_node(&mut self, at: usize)
-        ensures { places self.new ≡ slice_set (places self.old) at (record { update = (get_or (places self.old) at no_node).update; flagged = true }) }
+    // Flags a place, if it is there.
+    pub fn set_flag(&mut self, place: u64)
+        ensures { self.new ≡ set_flag self.old place }
     {
-        if at < self.count {
+        let at = place.saturating_sub(1) as usize;
+        if at < self.nodes.len() {
             self.nodes[at].flagged = true;
         }
     }
 
-    // Flags a place, if it is there.
-    pub fn set_flag(&mut self, place: u64)
-        ensures { places self.new ≡ set_flag (places self.old) place }
+    // The first `count` nodes, or all if there are fewer.
+    pub(crate) fn first(&self, count: u64) -> &[Node]
+        ensures { result.now ≡ take count self.now }
     {
-        self.flag_node(place.saturating_sub(1) as usize);
+        let end = self.nodes.len().min(count as usize);
+        &self.nodes[..end]
     }
 
     // The highest flagged place, or 0.
+    #[tactic(auto, using(crate::proofs::Nodes::higher_more, crate::proofs::Nodes::higher_all))]
     pub fn highest_flag(&self) -> u64
-        ensures { result ≡ highest_flag (places self.now) }
+        ensures { result ≡ highest_flag self.now }
     {
         let mut best = 0;
-        for at in 0..self.count {
-            best = higher(best, at as u64 + 1, self.nodes[at]);
+        for (at, node) in self.nodes.iter().enumerate() {
+            if node.flagged {
+                best = at as u64 + 1;
+            }
         }
         best
     }
 
     // The lowest of the first `top` places that holds the update of this identity.
-    fn find(&self, top: u64, run: u64, station: u64, call: u64) -> Option<u64>
-        ensures { result ≡ place_of (take top (places self.now)) 1 run station call }
+    #[tactic(auto, using(crate::proofs::Nodes::place_found))]
+    fn find(&self, top: u64, sought: Identity) -> Option<u64>
+        ensures { result ≡ place_of (take top self.now) 1 sought.run sought.station sought.call }
     {
-        let end = self.count.min(top as usize);
-        for at in 0..end {
-            if is_of(self.nodes[at], run, station, call) {
-                return Some(at as u64 + 1);
-            }
-        }
-        None
+        index_of(self.first(top), sought).map(|at| at as u64 + 1)
     }
 
     // The lowest place, up to the highest flagged one, that holds the update of this identity.
-    pub fn place_of(&self, run: u64, station: u64, call: u64) -> Option<u64>
-        ensures { result ≡ place_of (take (highest_flag (places self.now)) (places self.now)) 1 run station call }
+    pub fn place_of(&self, sought: Identity) -> Option<u64>
+        ensures { result ≡ place_of (take (highest_flag self.now) self.now) 1 sought.run sought.station sought.call }
     {
-        self.find(self.highest_flag(), run, station, call)
+        self.find(self.highest_flag(), sought)
     }
 }

@@ -9,7 +9,5 @@ mod trials;
 use std::io;
 
 fn main(rt: HostRuntime) -> io::Result<()> {
-    trials::lazy(&rt)?;
-    trials::lazy_fenced(&rt)?;
-    trials::through(&rt)
+    trials::all(&rt)
 }

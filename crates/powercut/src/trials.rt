@@ -1,6 +1,6 @@
 use super::booking::Booking;
 use super::record;
-use memory::{Lazy, LineRec, Memory, Through};
+use memory::{Cell, Lent, LineRec, Memory};
 use std::io;
 
 const BOOKING: Booking = Booking {
@@ -30,35 +30,40 @@ fn report<M: Memory>(
     }
 }
 
-pub(super) fn lazy(rt: &impl Print) -> io::Result<()> {
-    println!(rt; "lazy memory, no fence")?;
-    for kept in 0..STORES + 1 {
-        let mut lines = [LineRec::new([0; 8]); 1];
-        let mut memory = Lazy::blank(&mut lines);
-        let found = record::unfenced(&mut memory, BOOKING, &[kept]);
+// A booking is tried on blank cells, once for each number of stores that the line may keep.
+fn trial<C: Cell + Copy, F: Fn(&mut Lent<C>, u8) -> Option<Booking>, const N: usize>(
+    rt: &impl Print,
+    title: &str,
+    blank: [C; N],
+    attempt: F,
+) -> io::Result<()>
+    requires { F.IsAlwaysCallable attempt }
+{
+    println!(rt; "{title}")?;
+    for kept in 0..=STORES {
+        let mut cells = blank;
+        let mut memory = Lent::blank(&mut cells);
+        let found = attempt(&mut memory, kept);
         report(rt, &memory, kept, found)?;
     }
     Ok(())
 }
 
-pub(super) fn lazy_fenced(rt: &impl Print) -> io::Result<()> {
-    println!(rt; "lazy memory, write-back and fence before the cut")?;
-    for kept in 0..STORES + 1 {
-        let mut lines = [LineRec::new([0; 8]); 1];
-        let mut memory = Lazy::blank(&mut lines);
-        let found = record::fenced(&mut memory, BOOKING, &[kept]);
-        report(rt, &memory, kept, found)?;
-    }
-    Ok(())
-}
-
-pub(super) fn through(rt: &impl Print) -> io::Result<()> {
-    println!(rt; "memory that writes through, no fence")?;
-    for kept in 0..STORES + 1 {
-        let mut words = [0; 8];
-        let mut memory = Through::blank(&mut words);
-        let found = record::unfenced(&mut memory, BOOKING, &[kept]);
-        report(rt, &memory, kept, found)?;
-    }
-    Ok(())
+pub(super) fn all(rt: &impl Print) -> io::Result<()> {
+    let lines = [LineRec::new([0; 8]); 1];
+    trial(rt, "lazy memory, no fence", lines, |memory, kept| {
+        record::unfenced(memory, BOOKING, &[kept])
+    })?;
+    trial(
+        rt,
+        "lazy memory, write-back and fence before the cut",
+        lines,
+        |memory, kept| record::fenced(memory, BOOKING, &[kept]),
+    )?;
+    trial(
+        rt,
+        "memory that writes through, no fence",
+        [0u64; 8],
+        |memory, kept| record::unfenced(memory, BOOKING, &[kept]),
+    )
 }

@@ -7,7 +7,6 @@ use Rattle.model.specs.Machine.{place_question, place_questions, update_found, u
 use Rattle.model.specs.declared.types.Update.{Update}
 use Rattle.model.specs.declared.types.Refusal.{Refusal}
 use Rattle.order.specs.declared.types.Order.{Order}
-use Rattle.order.specs.Places.{places}
 use Rattle.recovery.specs.declared.types.Recovered.{Recovered}
 
 -- the update at place i, or the question that the place is refused for
@@ -17,13 +16,13 @@ PlaceRead R fss i (Err q) = place_question R i (holding i fss) ≡ Some q
 
 -- the updates at n places from 1 on, all flagged, or the first question that one of them is refused for
 abbrev pub OrderRead : {S : Type 0} → Rules S → List (List Entry) → ℕ → Result Order Refusal → Type 0
-OrderRead R fss n (Ok o) = (place_questions R fss 1 n ≡ None) × (places o ≡ map flagged (updates_from fss 1 n))
+OrderRead R fss n (Ok o) = (place_questions R fss 1 n ≡ None) × (o ≡ map flagged (updates_from fss 1 n))
 OrderRead R fss n (Err q) = place_questions R fss 1 n ≡ Some q
 
 pub record FoundIn {S : Type 0} (R : Rules S) (m : Mem) (x : Recovered) : Type 0 where
   pub accepted : start_question R m ≡ None
   pub run : x.run ≡ loaded m 0 0 + 1
-  pub order : places x.order ≡ map flagged (found m)
+  pub order : x.order ≡ map flagged (found m)
   pub stations : x.stations ≡ map fresh_station (logs m)
 
 abbrev pub Recovers : {S : Type 0} → Rules S → Mem → Result Recovered Refusal → Type 0

@@ -9,13 +9,14 @@ use journal::{agrees, find_place, last_place, log_length, update_in, used_lines}
 use memory::Memory;
 use model::{Call, Node, Refusal, Station, Update};
 use order::Order;
+use std::array;
 
 // A memory has a line for the run's number and eight logs of 8 to 64 lines.
 fn right_size<M: Memory>(memory: &M) -> bool
     ensures { result ≡ right_size (M.Memory.model memory.now) }
 {
     let length = log_length(memory);
-    8 <= length && length <= 64 && memory.line_count() == 1 + 8 * length
+    (8..=64).contains(&length) && memory.line_count() == 1 + 8 * length
 }
 
 // A station as a start finds it.
@@ -32,25 +33,14 @@ fn fresh<M: Memory>(memory: &M, station: u64) -> Station
 fn fresh_stations<M: Memory>(memory: &M) -> [Station; 8]
     ensures { result ≡ map fresh_station (logs (M.Memory.model memory.now)) }
 {
-    [
-        fresh(memory, 1),
-        fresh(memory, 2),
-        fresh(memory, 3),
-        fresh(memory, 4),
-        fresh(memory, 5),
-        fresh(memory, 6),
-        fresh(memory, 7),
-        fresh(memory, 8),
-    ]
+    array::from_fn(|i| fresh(memory, i as u64 + 1))
 }
 
 // The update that the entries hold for a place.
 fn update_at<M: Memory, B: Book>(memory: &M, book: &B, place: u64) -> Result<Update, Refusal>
     ensures { PlaceRead (B.Book.rules book.now) (logs (M.Memory.model memory.now)) place result }
 {
-    let Some(line) = find_place(memory, place) else {
-        return Err(Refusal::MissingPlace(place));
-    };
+    let line = find_place(memory, place).ok_or(Refusal::MissingPlace(place))?;
     if !agrees(memory, place, line) {
         return Err(Refusal::Disagreement(place));
     }
@@ -63,22 +53,24 @@ fn update_at<M: Memory, B: Book>(memory: &M, book: &B, place: u64) -> Result<Upd
 }
 
 // The updates at the first `count` places, all flagged.
+#[tactic(auto, using(crate::proofs::Onward::passed_none, crate::proofs::Onward::passed_all))]
 fn read_order<M: Memory, B: Book>(memory: &M, book: &B, count: u64) -> Result<Order, Refusal>
     requires { count ≤ max_place }
     ensures { OrderRead (B.Book.rules book.now) (logs (M.Memory.model memory.now)) count result }
 {
     let mut order = Order::new();
-    for passed in 0..count {
-        let update = update_at(memory, book, passed + 1)?;
+    for place in 1..=count {
+        let update = update_at(memory, book, place)?;
         order.push(Node {
             update,
             flagged: true,
-        });
+        })?;
     }
     Ok(order)
 }
 
 // The greatest place that is found, which is one of an order.
+#[tactic(auto, using(crate::proofs::Limits::last_within))]
 fn places_found<M: Memory>(memory: &M) -> u64
     ensures value { result ≡ last_place (M.Memory.model memory.now) }
     ensures within { result ≤ max_place }

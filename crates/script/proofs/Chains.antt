@@ -1,10 +1,10 @@
 -- Steps in a row, and one pattern read slot by slot.
-use Rattle.std.proofs.Common.{◌≡◌, ℕ, Bool, true, false, cond, List, [], ◌∷◌, ◌++◌, Ok, Err, Result, sym, refl, ◌∙◌}
+use Rattle.std.proofs.Common.{◌≡◌, ℕ, Bool, true, false, cond, List, [], ◌∷◌, ◌++◌, Ok, Err, Option, Some, Result, sym, refl, ◌∙◌}
 use Rattle.tokens.specs.declared.types.Fault.{Fault}
 use Rattle.tokens.specs.Tokens.{Placed}
 use Rattle.forms.specs.Spoken.{Spoken}
 use Rattle.script.specs.Grammar.{Slot, opens, closes, says, counts, read_by}
-use Rattle.script.specs.Reading.{Step, then, open_bracket, close_bracket, number_within, alone}
+use Rattle.script.specs.Reading.{Step, then, if_named, open_bracket, close_bracket, number_within, alone}
 use Rattle.script.proofs.Patterns.{read_opens, read_closes, read_counts, read_end}
 use Rattle.script.proofs.Words.{then_same}
 
@@ -18,6 +18,12 @@ seq (Err f) k l m h = refl
 pub test : {X Z : Type 0} (t : Bool) (x y : Step X) (k : X → List Placed → Result Z Fault) (a b : Result Z Fault) → then x k ≡ a → then y k ≡ b → then (cond t x y) k ≡ cond t a b
 test true x y k a b h g = h
 test false x y k a b h g = g
+
+-- the same, where a word chooses a kind
+pub named : {K Z : Type 0} (t : Bool) (x : K) (y : Option K) (col : ℕ) (ts : List Placed) (k : K → List Placed → Result Z Fault) (a b : Result Z Fault) →
+    k x ts ≡ a → then (if_named y col ts) k ≡ b → then (if_named (cond t (Some x) y) col ts) k ≡ cond t a b
+named true x y col ts k a b h g = h
+named false x y col ts k a b h g = g
 
 -- one pattern, slot by slot; a word is left to its group
 abbrev pub expects : List Slot → (List ℕ → Spoken) → List ℕ → ℕ → List Placed → Result Spoken Fault

@@ -1,14 +1,10 @@
 -- One turn of reading the pairs of a cut.
-use Rattle.std.proofs.Common.{◌≡◌, ℕ, zero, suc, ◌+◌, ◌-◌, ◌<◌, ◌≤◌, List, [], ◌∷◌, ◌++◌, map, length, take, set, Ok, Err, sym, refl, ap, ◌∙◌, ap₂, arith}
-use Rattle.std.proofs.ByRecursion.{All-push, All-map}
-use Rattle.std.proofs.lemmas.List.{take_more_set, map_push, length-map, length-take}
+use Rattle.std.proofs.Common.{◌≡◌, ℕ, zero, suc, ◌+◌, ◌-◌, ◌<◌, ◌≤◌, List, [], ◌∷◌, ◌++◌, Ok, Err, sym, refl, ap, ap₂, ◌∙◌, arith}
 use Rattle.tokens.specs.declared.types.Fault.{Fault}
-use Rattle.forms.specs.declared.types.Pair.{Pair}
 use Rattle.tokens.specs.declared.types.Token.{Token}
 use Rattle.tokens.specs.declared.types.Token.TheVariants as tokens
 use Rattle.tokens.specs.Tokens.{Placed, unreadable, shape_of}
-use Rattle.std.specs.List.{AllByRecursion}
-use Rattle.forms.specs.Spoken.{Spoken, cut, pair_of, Proper, ProperPair}
+use Rattle.forms.specs.Spoken.{Spoken, cut}
 use Rattle.script.specs.Reading.{Step, then, next_token, placed, if_pair, pair, cut_form}
 
 -- what an opening bracket leads to
@@ -24,59 +20,56 @@ unfolding cut_form
 cut_turn zero ps len ts = refl
 cut_turn (suc m) ps len ts = refl
 
--- the pairs read so far
-abbrev pub so_far : List Pair → ℕ → List (ℕ × ℕ)
-so_far ps i = map pair_of (take i ps)
+module _ (m : ℕ) (ps : List (ℕ × ℕ)) (len : ℕ) (ts : List Placed) where
+  -- no token, or one that fits nowhere
+  pub cut_faulty : (f : Fault) → Err f ≡ next_token len ts → cut_form m ps len ts ≡ Err f
+  cut_faulty f e = cut_turn m ps len ts ∙ ap (turn m ps len) (sym e)
 
-module _ (i : ℕ) (ps : List Pair) (len : ℕ) (ts : List Placed) where
-  pub cut_faulty : (f : Fault) → Err f ≡ next_token len ts → Err f ≡ cut_form (16 - i) (so_far ps i) len ts
-  cut_faulty f e = ap (turn (16 - i) (so_far ps i) len) e ∙ sym (cut_turn (16 - i) (so_far ps i) len ts)
-
-  module _ (t : Placed) (rest : List Placed) (e : Ok (t, rest) ≡ next_token len ts) where
-    pub cut_next : if_pair t.shape t.column (so_far ps i) rest (another (16 - i) (so_far ps i) t.column len rest) ≡ cut_form (16 - i) (so_far ps i) len ts
-    cut_next = ap (turn (16 - i) (so_far ps i) len) e ∙ sym (cut_turn (16 - i) (so_far ps i) len ts)
+  module _ (t : Token) (col : ℕ) (rest : List Placed) (e : Ok (placed (t, col), rest) ≡ next_token len ts) where
+    pub cut_next : cut_form m ps len ts ≡ if_pair (shape_of t) col ps rest (another m ps col len rest)
+    cut_next = cut_turn m ps len ts ∙ ap (turn m ps len) (sym e)
 
     -- the last bracket
-    pub pairs_end : (token : Token) (col : ℕ) → token ≡ tokens.Close → t ≡ placed (token, col) → Ok (cut (so_far ps i), rest) ≡ cut_form (16 - i) (so_far ps i) len ts
-    pairs_end token col is here =
-        ap (λ (x : Token). if_pair (shape_of x) col (so_far ps i) rest (another (16 - i) (so_far ps i) col len rest)) (sym is)
-        ∙ ap (λ (x : Placed). if_pair x.shape x.column (so_far ps i) rest (another (16 - i) (so_far ps i) x.column len rest)) (sym here)
-        ∙ cut_next
+    pub cut_closed : t ≡ tokens.Close → cut_form m ps len ts ≡ Ok (cut ps, rest)
+    cut_closed is = cut_next ∙ ap (λ (x : Token). if_pair (shape_of x) col ps rest (another m ps col len rest)) is
 
--- the pairs read so far are proper, and with the next one too
-abbrev pub ProperPairs : List Pair → ℕ → Type 0
-ProperPairs ps i = AllByRecursion (λ p. ProperPair (pair_of p)) (take i ps)
+    -- a pair begins
+    pub cut_opened : t ≡ tokens.Open → cut_form m ps len ts ≡ another m ps col len rest
+    cut_opened is = cut_next ∙ ap (λ (x : Token). if_pair (shape_of x) col ps rest (another m ps col len rest)) is
 
-pub proper_more : (ps : List Pair) (i : ℕ) (p : Pair) → i < length ps → ProperPairs ps i → ProperPair (pair_of p) → ProperPairs (set ps i p) (i + 1)
-proper_more ps i p h before here = rw (take_more_set ps i p h) (All-push (λ p. ProperPair (pair_of p)) (take i ps) p before here)
+    -- any other token
+    pub cut_other : (t ≡ tokens.Open → ⊥) → (t ≡ tokens.Close → ⊥) → cut_form m ps len ts ≡ Err (unreadable col)
+    cut_other begins ends = cut_next ∙ other t begins ends
+      where
+        other : (x : Token) → (x ≡ tokens.Open → ⊥) → (x ≡ tokens.Close → ⊥) → if_pair (shape_of x) col ps rest (another m ps col len rest) ≡ Err (unreadable col)
+        other tokens.Open h _ = absurd (h refl)
+        other tokens.Close _ h = absurd (h refl)
+        other (tokens.Word w) _ _ = refl
+        other (tokens.Number ds) _ _ = refl
 
-pub proper_cut : (ps : List Pair) (i : ℕ) → i ≤ 16 → ProperPairs ps i → Proper (cut (so_far ps i))
-proper_cut ps i few h = (simp (length-map, length-take) (omega arith), All-map ProperPair pair_of (take i ps) h)
+another_none : (m : ℕ) (ps : List (ℕ × ℕ)) (col len : ℕ) (ts : List Placed) → m ≤ 0 → another m ps col len ts ≡ Err (unreadable col)
+another_none zero ps col len ts h = refl
+another_none (suc m) ps col len ts h = absurd (omega arith)
+
+another_pair : (m : ℕ) (ps : List (ℕ × ℕ)) (col len : ℕ) (ts : List Placed) → 0 < m → another m ps col len ts ≡ then (pair len ts) (λ p ts. cut_form (m - 1) (ps ++ p ∷ []) len ts)
+another_pair zero ps col len ts h = absurd (omega arith)
+another_pair (suc m) ps col len ts h = let one : m ≡ suc m - 1 = omega arith in ap (λ k. then (pair len ts) (λ p ts. cut_form k (ps ++ p ∷ []) len ts)) one
 
 -- behind an opening bracket: no place is left, or a pair is read
-module _ (i : ℕ) (ps : List Pair) (len : ℕ) (ts : List Placed) (t : Token) (col : ℕ) (rest : List Placed) (is : t ≡ tokens.Open) (e : Ok (placed (t, col), rest) ≡ next_token len ts) where
-  pair_begins : (m : ℕ) → m ≡ 16 - i → another m (so_far ps i) col len rest ≡ cut_form (16 - i) (so_far ps i) len ts
-  pair_begins m h =
-      ap (λ k. another k (so_far ps i) col len rest) h
-      ∙ ap (λ s. if_pair (shape_of s) col (so_far ps i) rest (another (16 - i) (so_far ps i) col len rest)) (sym is)
-      ∙ cut_next i ps len ts (placed (t, col)) rest e
+module _ (m : ℕ) (ps : List (ℕ × ℕ)) (len : ℕ) (ts : List Placed) (t : Token) (col : ℕ) (rest : List Placed) (e : Ok (placed (t, col), rest) ≡ next_token len ts) (is : t ≡ tokens.Open) where
+  pub cut_full : m ≤ 0 → cut_form m ps len ts ≡ Err (unreadable col)
+  cut_full h = cut_opened m ps len ts t col rest e is ∙ another_none m ps col len rest h
 
-  pub pairs_full : i ≡ 16 → Err (unreadable col) ≡ cut_form (16 - i) (so_far ps i) len ts
-  pairs_full h = pair_begins 0 (omega arith)
+  module _ (h : 0 < m) where
+    pub pair_faulty : (f : Fault) → Err f ≡ pair len rest → cut_form m ps len ts ≡ Err f
+    pair_faulty f n = cut_opened m ps len ts t col rest e is ∙ another_pair m ps col len rest h ∙ ap (λ s. then s (λ p ts. cut_form (m - 1) (ps ++ p ∷ []) len ts)) (sym n)
 
-  module _ (h : i < 16) (there : ℕ) (same : there ≡ len) where
-    abbrev after_pair : Step (ℕ × ℕ) → Step Spoken
-    after_pair s = then s (λ p ts. cut_form (16 - (i + 1)) (so_far ps i ++ p ∷ []) len ts)
+    pub pair_read : (p : ℕ × ℕ) (behind : List Placed) → Ok (p, behind) ≡ pair len rest → (k : ℕ) (qs : List (ℕ × ℕ)) → k + 1 ≡ m → qs ≡ ps ++ p ∷ [] → cut_form k qs len behind ≡ cut_form m ps len ts
+    pair_read p behind n k qs one more =
+        let before : k ≡ m - 1 = omega arith in
+        ap₂ (λ i xs. cut_form i xs len behind) before more
+        ∙ ap (λ s. then s (λ p ts. cut_form (m - 1) (ps ++ p ∷ []) len ts)) n
+        ∙ sym (another_pair m ps col len rest h)
+        ∙ sym (cut_opened m ps len ts t col rest e is)
 
-    pair_ends : after_pair (pair there rest) ≡ cut_form (16 - i) (so_far ps i) len ts
-    pair_ends = ap (λ k. after_pair (pair k rest)) same ∙ pair_begins (suc (16 - (i + 1))) (omega arith)
-
-    pub pair_faulty : (f : Fault) → Err f ≡ pair there rest → Err f ≡ cut_form (16 - i) (so_far ps i) len ts
-    pair_faulty f n = ap after_pair n ∙ pair_ends
-
-    pub pair_read : (p : Pair) (behind : List Placed) (at : ℕ) → Ok (pair_of p, behind) ≡ pair there rest → at ≡ there → i < length ps →
-        cut_form (16 - (i + 1)) (so_far (set ps i p) (i + 1)) at behind ≡ cut_form (16 - i) (so_far ps i) len ts
-    pair_read p behind at n line long =
-        ap₂ (λ k qs. cut_form (16 - (i + 1)) qs k behind) (line ∙ same) (ap (map pair_of) (take_more_set ps i p long) ∙ map_push pair_of (take i ps) p)
-        ∙ ap after_pair n
-        ∙ pair_ends
+pub ruleset cutting = (cut_faulty, cut_closed, cut_other, cut_full, pair_faulty, pair_read)

@@ -6,6 +6,7 @@ pub mod Table
 pub mod Calls
 pub mod Cuts
 pub mod Whole
+pub mod Proper
 pub mod Exact
 pub mod Numbers
 pub mod Spelled

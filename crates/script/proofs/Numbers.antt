@@ -1,5 +1,6 @@
 -- A number in decimal is one token, and is read as itself.
-use Rattle.std.proofs.Common.{◌≡◌, ℕ, ◌+◌, ◌^◌, ◌<◌, ◌≤◌, max, true, false, cond, not, ◌&&◌, ◌||◌, eqb, ltb, leb, List, [], ◌∷◌, ◌++◌, length, get_or, take, Ok, Err, decimal, refl, ap, ◌∙◌, ap₂, inl, inr, one-add, arith, rules}
+use Rattle.std.proofs.Common.{◌≡◌, ℕ, ◌+◌, ◌^◌, ◌<◌, ◌≤◌, max, true, false, cond, not, ◌&&◌, ◌||◌, eqb, ltb, leb, List, [], ◌∷◌, ◌++◌, length, get_or, take, Ok, Err, decimal, ap, ◌∙◌, ap₂, inl, inr, one-add, arith, rules}
+use Rattle.std.proofs.Math.Bool.{and-false}
 use Rattle.std.proofs.lemmas.Fmt.{decimal_digit, decimal_nonempty, first_decimal, digits_decimal, digits_value-decimal}
 use Rattle.std.proofs.lemmas.Str.Parse.{IsNumeralModel, numerals_by_fold, tells_all_ascii_digits}
 use Rattle.std.proofs.lemmas.List.{take-append-le, take_all}
@@ -21,13 +22,9 @@ no_zero_first n h =
     elim (cases_lt 0 n) [
       | inl some ↦
           let first = first_decimal n some h in
-          ap (λ b. ltb 1 (length (decimal n)) && b) (ne_eqb (get_or (decimal n) 0 0) 48 (λ e. omega arith)) ∙ and_false (ltb 1 (length (decimal n)))
+          ap (λ b. ltb 1 (length (decimal n)) && b) (ne_eqb (get_or (decimal n) 0 0) 48 (λ e. omega arith)) ∙ and-false (ltb 1 (length (decimal n)))
       | inr none ↦ let zero : n ≡ 0 = omega arith in ap (λ k. ltb 1 (length (decimal k)) && eqb (get_or (decimal k) 0 0) 48) zero ∙ ap (λ ds. ltb 1 (length ds) && eqb (get_or ds 0 0) 48) (decimal_digit 0 (omega arith))
     ]
-  where
-    and_false : (b : _) → (b && false) ≡ false
-    and_false true = refl
-    and_false false = refl
 
 plain_decimal : (n : ℕ) → n < 2 ^ 64 → plain (decimal n) ≡ true
 plain_decimal n h = and_from _ _ (not_from_false _ (no_zero_first n h)) (ap (λ v. ltb v (2 ^ 64)) (digits_value-decimal own n h) ∙ lt-ltb n (2 ^ 64) h)

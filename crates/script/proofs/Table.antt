@@ -1,5 +1,5 @@
 -- The reader and the table agree, form by form.
-use Rattle.std.proofs.Common.{◌≡◌, ℕ, List, [], ◌∷◌, get_or, Ok, codes, Result, sym, refl, ◌∙◌}
+use Rattle.std.proofs.Common.{◌≡◌, ℕ, List, [], ◌∷◌, get_or, Ok, codes, None, Result, sym, refl, ◌∙◌}
 use Rattle.std.specs.Str.{bytes_eq}
 use Rattle.tokens.specs.declared.types.Fault.{Fault}
 use Rattle.forms.specs.declared.types.MemoryKind.{MemoryKind}
@@ -12,7 +12,7 @@ use Rattle.script.specs.Grammar.{Slot, closes, counts, any, read_by}
 use Rattle.script.specs.Reading as by
 use Rattle.script.specs.Reading.{then, some_word, close_bracket, number_within, any_number, alone, finished}
 use Rattle.script.proofs.Words.{Group, of_groups, choose, read_choice}
-use Rattle.script.proofs.Chains.{seq, test, one_pattern}
+use Rattle.script.proofs.Chains.{seq, named, one_pattern}
 
 abbrev pub group : List ℕ → List Slot → (List ℕ → Spoken) → Group
 group w xs f = record { name = w; rest = record { slots = xs; meaning = f } ∷ [] }
@@ -39,8 +39,8 @@ module _ (len : ℕ) where
 
   kind_reads : (w : List ℕ) (col : ℕ) (ts : List Placed) → then (by.kind_by w col ts) behind_kind ≡ choose w kinds col (λ ps. read_by ps [] len ts)
   kind_reads w col ts =
-      test (bytes_eq w (codes "lazy")) _ _ behind_kind _ _ (one_pattern (counts 8 16 ∷ closes ∷ []) (λ ns. memory Lazy (get_or ns 0 0)) [] len ts)
-      (test (bytes_eq w (codes "through")) _ _ behind_kind _ _ (one_pattern (counts 8 16 ∷ closes ∷ []) (λ ns. memory Through (get_or ns 0 0)) [] len ts) refl)
+      named (bytes_eq w (codes "lazy")) _ _ col ts behind_kind _ _ (one_pattern (counts 8 16 ∷ closes ∷ []) (λ ns. memory Lazy (get_or ns 0 0)) [] len ts)
+      (named (bytes_eq w (codes "through")) _ None col ts behind_kind _ _ (one_pattern (counts 8 16 ∷ closes ∷ []) (λ ns. memory Through (get_or ns 0 0)) [] len ts) refl)
 
   pub memory_reads : (ts : List Placed) → finished (by.memory_form len ts) ≡ read_by (of_groups kinds) [] len ts
   memory_reads ts =
@@ -54,8 +54,8 @@ module _ (len : ℕ) where
 
   book_reads : (w : List ℕ) (col : ℕ) (ts : List Placed) → then (by.book_by w col ts) behind_book ≡ choose w books col (λ ps. read_by ps [] len ts)
   book_reads w col ts =
-      test (bytes_eq w (codes "tally")) _ _ behind_book _ _ (one_pattern (closes ∷ []) (λ ns. object Tally) [] len ts)
-      (test (bytes_eq w (codes "slots")) _ _ behind_book _ _ (one_pattern (closes ∷ []) (λ ns. object Slots) [] len ts) refl)
+      named (bytes_eq w (codes "tally")) _ _ col ts behind_book _ _ (one_pattern (closes ∷ []) (λ ns. object Tally) [] len ts)
+      (named (bytes_eq w (codes "slots")) _ None col ts behind_book _ _ (one_pattern (closes ∷ []) (λ ns. object Slots) [] len ts) refl)
 
   pub object_reads : (ts : List Placed) → finished (by.object_form len ts) ≡ read_by (of_groups books) [] len ts
   object_reads ts =

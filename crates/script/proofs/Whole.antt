@@ -1,15 +1,13 @@
 -- The reader and the table agree on every line.
-use Rattle.std.proofs.Common.{◌≡◌, ℕ, List, [], ◌∷◌, map, length, get_or, IsErrAnd, Err, codes, Result, sym, refl, ap, ◌∙◌, ap₂}
-use Rattle.std.proofs.lemmas.Result.{err_from_is_err_and}
+use Rattle.std.proofs.Common.{◌≡◌, ℕ, List, [], ◌∷◌, map, length, get_or, Ok, Err, codes, sym, refl, ap, ◌∙◌, ap₂}
 use Rattle.std.specs.Str.{bytes_eq}
 use Rattle.tokens.specs.declared.types.Fault.{Fault}
-use Rattle.forms.specs.declared.types.Form.{Form}
 use Rattle.tokens.specs.declared.lexer.Lexer.{Lexer}
 use Rattle.tokens.specs.Tokens.{Placed, tokens_of}
-use Rattle.forms.specs.Spoken.{start, rise, steps, outcome}
-use Rattle.script.specs.Grammar.{opens, closes, counts, any, read_by, prefix, pairs_up_to, table, said}
+use Rattle.forms.specs.Spoken.{Spoken, start, rise, steps, outcome}
+use Rattle.script.specs.Grammar.{opens, closes, counts, any, read_by, prefix, pairs_up_to, table}
 use Rattle.tokens.specs.Ahead.{left, line_length}
-use Rattle.script.specs.Reading.{then, open_bracket, some_word, alone, finished, form_by, some_form}
+use Rattle.script.specs.Reading.{Step, then, open_bracket, some_word, alone, finished, form_by, some_form}
 use Rattle.script.proofs.Patterns.{read_opens}
 use Rattle.script.proofs.Words.{Group, of_groups, choose, read_choice}
 use Rattle.script.proofs.Chains.{seq, test}
@@ -52,9 +50,12 @@ form_reads len ts =
     ∙ ap (λ ps. read_by ps [] len ts) table_is
 
 -- what a new lexer of the line leads to
-pub whole_line : (l : Lexer) (line : List ℕ) → left l ≡ tokens_of line → line_length l ≡ length line → finished (some_form (line_length l) (left l)) ≡ read_by table [] (length line) (tokens_of line)
-whole_line l line tokens long = form_reads (line_length l) (left l) ∙ ap₂ (λ k ts. read_by table [] k ts) long tokens
+module _ (l : Lexer) (line : List ℕ) (tokens : left l ≡ tokens_of line) (long : line_length l ≡ length line) where
+  whole_line : (s : Step Spoken) → s ≡ some_form (line_length l) (left l) → finished s ≡ read_by table [] (length line) (tokens_of line)
+  whole_line s e = ap finished e ∙ form_reads (line_length l) (left l) ∙ ap₂ (λ k ts. read_by table [] k ts) long tokens
 
--- the fault of a reader, passed on
-pub refused : (r : Result Form Fault) (f : Fault) → IsErrAnd r (λ e. e ≡ f) → said r ≡ Err f
-refused r f h = let p = err_from_is_err_and r h in ap said p.1 ∙ ap Err p.2
+  pub whole_fault : (f : Fault) → Err f ≡ some_form (line_length l) (left l) → Err f ≡ read_by table [] (length line) (tokens_of line)
+  whole_fault f e = whole_line (Err f) e
+
+  pub whole_form : (m : Spoken) (ts : List Placed) → Ok (m, ts) ≡ some_form (line_length l) (left l) → alone m ts ≡ read_by table [] (length line) (tokens_of line)
+  whole_form m ts e = whole_line (Ok (m, ts)) e

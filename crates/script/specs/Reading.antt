@@ -1,17 +1,20 @@
 -- The same language by a reader that knows what it expects next.
-use Rattle.std.specs.Prelude.{ℕ, zero, suc, ◌+◌, cond, ◌&&◌, List, [], ◌∷◌, ◌++◌, Ok, Err, codes, Result, nat_le}
+use Rattle.std.specs.Prelude.{◌≡◌, ℕ, zero, suc, ◌+◌, cond, ◌&&◌, List, [], ◌∷◌, ◌++◌, Ok, Err, codes, Option, Some, None, Result, nat_le}
 use Rattle.std.specs.Borrow.{Bor}
 use Rattle.std.specs.Str.{bytes_eq}
+use Rattle.tokens.specs.declared.lexer.Lexer.{Lexer}
 use Rattle.tokens.specs.declared.types.Fault.{Fault}
 use Rattle.tokens.specs.declared.types.Token.{Token}
 use Rattle.forms.specs.declared.types.MemoryKind.{MemoryKind}
-use Rattle.forms.specs.declared.types.MemoryKind.TheVariants.{Lazy, Through}
 use Rattle.forms.specs.declared.types.BookKind.{BookKind}
-use Rattle.forms.specs.declared.types.BookKind.TheVariants.{Tally, Slots}
 use Rattle.forms.specs.declared.types.Pair.{Pair}
 use Rattle.forms.specs.declared.types.Request.{Request}
 use Rattle.forms.specs.declared.types.Request.TheVariants.{Add, Read, Reserve, Cancel, Holder}
+use Rattle.script.specs.declared.expect.Side.{Side}
+use Rattle.script.specs.declared.expect.Side.TheVariants.{Open, Close}
 use Rattle.tokens.specs.Tokens.{Shape, opening, closing, word, number, odd, Placed, plain, value, unreadable, fits_nowhere, shape_of}
+use Rattle.tokens.specs.Ahead.{left, line_length}
+use Rattle.forms.specs.Spelling.{kind_named, book_named}
 use Rattle.forms.specs.Spoken.{Spoken, memory, object, start, rise, call, steps, outcome, cut, pair_of}
 
 -- a value and the tokens behind it, or a fault
@@ -26,6 +29,11 @@ then (Err f) k = Err f
 abbrev pub went : {X : Type 0} → Result X Fault → List Placed → Step X
 went (Ok x) ts = Ok (x, ts)
 went (Err f) ts = Err f
+
+-- what a reader answered and left of a lexer is what f says
+pub record Reads {X : Type 0} (f : ℕ → List Placed → Step X) (old new : Lexer) (r : Result X Fault) : Type 0 where
+  pub line : new.line ≡ old.line
+  pub answer : went r (left new) ≡ f (line_length old) (left old)
 
 -- the next token, which has to be there
 abbrev pub next_token : ℕ → List Placed → Step Placed
@@ -92,11 +100,23 @@ any_number len ts = number_within 0 18446744073709551615 len ts
 abbrev pub closed : {X : Type 0} → X → ℕ → List Placed → Step X
 closed x len ts = then (close_bracket len ts) (λ _ ts. Ok (x, ts))
 
+abbrev pub bracket : Side → ℕ → List Placed → Step (Unit {0})
+bracket Open = open_bracket
+bracket Close = close_bracket
+
+-- the kind that a word names
+abbrev pub if_named : {K : Type 0} → Option K → ℕ → List Placed → Step K
+if_named (Some k) col ts = Ok (k, ts)
+if_named None col ts = Err (unreadable col)
+
+abbrev pub some_kind : {K : Type 0} → (List ℕ → Option K) → ℕ → List Placed → Step K
+some_kind named len ts = then (some_word len ts) (λ w ts. if_named (named w.0) w.1 ts)
+
 abbrev pub kind_by : List ℕ → ℕ → List Placed → Step MemoryKind
-kind_by w col ts = cond (bytes_eq w (codes "lazy")) (Ok (Lazy, ts)) (cond (bytes_eq w (codes "through")) (Ok (Through, ts)) (Err (unreadable col)))
+kind_by w col ts = if_named (kind_named w) col ts
 
 abbrev pub kind_word : ℕ → List Placed → Step MemoryKind
-kind_word len ts = then (some_word len ts) (λ w ts. kind_by w.0 w.1 ts)
+kind_word len ts = some_kind kind_named len ts
 
 abbrev pub memory_form : ℕ → List Placed → Step Spoken
 memory_form len ts =
@@ -104,10 +124,10 @@ memory_form len ts =
     then (number_within 8 16 len ts) (λ n ts. closed (memory k n) len ts))
 
 abbrev pub book_by : List ℕ → ℕ → List Placed → Step BookKind
-book_by w col ts = cond (bytes_eq w (codes "tally")) (Ok (Tally, ts)) (cond (bytes_eq w (codes "slots")) (Ok (Slots, ts)) (Err (unreadable col)))
+book_by w col ts = if_named (book_named w) col ts
 
 abbrev pub book_word : ℕ → List Placed → Step BookKind
-book_word len ts = then (some_word len ts) (λ w ts. book_by w.0 w.1 ts)
+book_word len ts = some_kind book_named len ts
 
 abbrev pub object_form : ℕ → List Placed → Step Spoken
 object_form len ts = then (book_word len ts) (λ b ts. closed (object b) len ts)

@@ -1,86 +1,72 @@
-ghost use Rattle.std.specs.Prelude.{◌≡◌, ◌≤◌, IfOk};
-ghost use Rattle.std.specs.Str.{bytes_eq};
-ghost use Rattle.tokens.specs.Tokens.{unreadable};
-ghost use Rattle.tokens.specs.Ahead.{left, line_length};
-ghost use Rattle.script.specs.Reading.{went, placed_in, next_token, open_bracket, close_bracket, some_word, number_within, word_in};
+ghost use Rattle.std.specs.Prelude.{◌≤◌, IfOk};
+ghost use Rattle.script.specs.Reading.{Reads, placed_in, word_in, next_token, bracket, some_word, some_kind, number_within, any_number};
 
+use forms::Named;
 use tokens::{Fault, Lexer, Token, number_of};
-
-// The fault of a token that does not fit.
-pub fn misfit(column: usize) -> Fault
-    ensures { result ≡ unreadable column }
-{
-    Fault { number: 16, column }
-}
-
-pub fn same(a: &[u8], b: &[u8]) -> bool
-    ensures { result ≡ bytes_eq a.now b.now }
-{
-    a == b
-}
 
 // The next token, which has to be there.
 pub fn token<'a>(lexer: &mut Lexer<'a>) -> Result<(Token<'a>, usize), Fault>
-    ensures line { lexer.new.line ≡ lexer.old.line }
-    ensures length { line_length lexer.new ≡ line_length lexer.old }
-    ensures answer { went (placed_in result) (left lexer.new) ≡ next_token (line_length lexer.old) (left lexer.old) }
+    ensures { Reads next_token lexer.old lexer.new (placed_in result) }
 {
-    match lexer.next()? {
-        Some(found) => Ok(found),
-        None => Err(misfit(lexer.past_end())),
+    match lexer.next() {
+        Some(found) => found,
+        None => Err(Fault::unreadable(lexer.past_end())),
     }
 }
 
-pub fn open(lexer: &mut Lexer) -> Result<(), Fault>
-    ensures line { lexer.new.line ≡ lexer.old.line }
-    ensures length { line_length lexer.new ≡ line_length lexer.old }
-    ensures answer { went result (left lexer.new) ≡ open_bracket (line_length lexer.old) (left lexer.old) }
-{
-    let (token, column) = token(lexer)?;
-    match token {
-        Token::Open => Ok(()),
-        _ => Err(misfit(column)),
-    }
+// Which bracket.
+#[derive(Clone, Copy)]
+pub enum Side {
+    Open,
+    Close,
 }
 
-pub fn close(lexer: &mut Lexer) -> Result<(), Fault>
-    ensures line { lexer.new.line ≡ lexer.old.line }
-    ensures length { line_length lexer.new ≡ line_length lexer.old }
-    ensures answer { went result (left lexer.new) ≡ close_bracket (line_length lexer.old) (left lexer.old) }
+pub fn bracket(lexer: &mut Lexer, which: Side) -> Result<(), Fault>
+    ensures { Reads (bracket which) lexer.old lexer.new result }
 {
     let (token, column) = token(lexer)?;
-    match token {
-        Token::Close => Ok(()),
-        _ => Err(misfit(column)),
+    match (which, token) {
+        (Side::Open, Token::Open) | (Side::Close, Token::Close) => Ok(()),
+        _ => Err(Fault::unreadable(column)),
     }
 }
 
 // A word and its column.
 pub fn word<'a>(lexer: &mut Lexer<'a>) -> Result<(&'a [u8], usize), Fault>
-    ensures line { lexer.new.line ≡ lexer.old.line }
-    ensures length { line_length lexer.new ≡ line_length lexer.old }
-    ensures answer { went (word_in result) (left lexer.new) ≡ some_word (line_length lexer.old) (left lexer.old) }
+    ensures { Reads some_word lexer.old lexer.new (word_in result) }
 {
     let (token, column) = token(lexer)?;
     match token {
         Token::Word(text) => Ok((text, column)),
-        _ => Err(misfit(column)),
+        _ => Err(Fault::unreadable(column)),
     }
+}
+
+// A word that names a kind.
+pub fn kind<K: Named>(lexer: &mut Lexer) -> Result<K, Fault>
+    ensures { Reads (some_kind K.named) lexer.old lexer.new result }
+{
+    let (text, column) = word(lexer)?;
+    K::named(text).ok_or(Fault::unreadable(column))
 }
 
 // A number from `low` to `high`.
 pub fn number(lexer: &mut Lexer, low: u64, high: u64) -> Result<u64, Fault>
-    ensures line { lexer.new.line ≡ lexer.old.line }
-    ensures length { line_length lexer.new ≡ line_length lexer.old }
-    ensures answer { went result (left lexer.new) ≡ number_within low high (line_length lexer.old) (left lexer.old) }
+    ensures reads { Reads (number_within low high) lexer.old lexer.new result }
     ensures within { IfOk result (λ n. (low ≤ n) × (n ≤ high)) }
 {
     let (token, column) = token(lexer)?;
     let Token::Number(digits) = token else {
-        return Err(misfit(column));
+        return Err(Fault::unreadable(column));
     };
     match number_of(digits) {
         Some(n) if low <= n && n <= high => Ok(n),
-        _ => Err(misfit(column)),
+        _ => Err(Fault::unreadable(column)),
     }
+}
+
+pub fn any_number(lexer: &mut Lexer) -> Result<u64, Fault>
+    ensures { Reads any_number lexer.old lexer.new result }
+{
+    number(lexer, 0, u64::MAX)
 }

@@ -1,305 +1,199 @@
-ghost use Rattle.std.specs.Prelude.{◌≡◌, ◌<◌, ◌≤◌, [], length, IfOk, if◌then◌else◌, Ok, Err, MatchBool, nat_lt};
-ghost use Rattle.tokens.specs.Tokens.{tokens_of, unreadable};
+ghost use Rattle.std.specs.Prelude.{◌≡◌, [], length, IfOk};
+ghost use Rattle.tokens.specs.Ahead.{left};
+ghost use Rattle.tokens.specs.Tokens.{tokens_of};
+ghost use Rattle.forms.specs.Spoken.{spoken_by, Proper};
 ghost use Rattle.script.specs.Grammar.{table, read_by, read_line, said};
-ghost use Rattle.forms.specs.Spoken.{spoken_by, pair_of, Proper, ProperRequest, ProperPair};
-ghost use Rattle.tokens.specs.Ahead.{left, line_length};
-ghost use Rattle.script.specs.Reading.{went, kind_word, book_word, memory_form, object_form, reserve_request, request_by, request, call_form, steps_form, outcome_form, pair, cut_form, form_by, some_form, alone, start_form, rise_form, pair_in};
+ghost use Rattle.script.specs.Reading.{Reads, closed, memory_form, object_form, reserve_request, request_by, request, call_form, steps_form, outcome_form, pair, pair_in, cut_form, form_by, some_form, alone};
 
-use super::expect::{close, misfit, number, open, same, token, word};
-use forms::{BookKind, Form, MemoryKind, Pair, Pairs, Request};
+use super::expect::{Side, any_number, bracket, kind, number, token, word};
+use forms::{Form, Pair, Pairs, Request};
 use tokens::{Fault, Lexer, Token};
 
-fn memory_kind(lexer: &mut Lexer) -> Result<MemoryKind, Fault>
-    ensures line { lexer.new.line ≡ lexer.old.line }
-    ensures length { line_length lexer.new ≡ line_length lexer.old }
-    ensures answer { went result (left lexer.new) ≡ kind_word (line_length lexer.old) (left lexer.old) }
+// The form, and the bracket behind it.
+fn closing(lexer: &mut Lexer, form: Form) -> Result<Form, Fault>
+    ensures { Reads (closed (spoken_by form)) lexer.old lexer.new (said result) }
 {
-    let (text, column) = word(lexer)?;
-    if same(text, b"lazy") {
-        Ok(MemoryKind::Lazy)
-    } else if same(text, b"through") {
-        Ok(MemoryKind::Through)
-    } else {
-        Err(misfit(column))
-    }
+    bracket(lexer, Side::Close)?;
+    Ok(form)
 }
 
 fn read_memory(lexer: &mut Lexer) -> Result<Form, Fault>
-    ensures line { lexer.new.line ≡ lexer.old.line }
-    ensures length { line_length lexer.new ≡ line_length lexer.old }
-    ensures answer { went (said result) (left lexer.new) ≡ memory_form (line_length lexer.old) (left lexer.old) }
-    ensures proper { IfOk result (λ f. Proper (spoken_by f)) }
+    ensures { Reads memory_form lexer.old lexer.new (said result) }
 {
-    let kind = memory_kind(lexer)?;
+    let kind = kind(lexer)?;
     let lines = number(lexer, 8, 16)?;
-    close(lexer)?;
-    Ok(Form::Memory { kind, lines })
-}
-
-fn book_kind(lexer: &mut Lexer) -> Result<BookKind, Fault>
-    ensures line { lexer.new.line ≡ lexer.old.line }
-    ensures length { line_length lexer.new ≡ line_length lexer.old }
-    ensures answer { went result (left lexer.new) ≡ book_word (line_length lexer.old) (left lexer.old) }
-{
-    let (text, column) = word(lexer)?;
-    if same(text, b"tally") {
-        Ok(BookKind::Tally)
-    } else if same(text, b"slots") {
-        Ok(BookKind::Slots)
-    } else {
-        Err(misfit(column))
-    }
+    closing(lexer, Form::Memory { kind, lines })
 }
 
 fn read_object(lexer: &mut Lexer) -> Result<Form, Fault>
-    ensures line { lexer.new.line ≡ lexer.old.line }
-    ensures length { line_length lexer.new ≡ line_length lexer.old }
-    ensures answer { went (said result) (left lexer.new) ≡ object_form (line_length lexer.old) (left lexer.old) }
-    ensures proper { IfOk result (λ f. Proper (spoken_by f)) }
+    ensures { Reads object_form lexer.old lexer.new (said result) }
 {
-    let book = book_kind(lexer)?;
-    close(lexer)?;
-    Ok(Form::Object { book })
-}
-
-fn read_start(lexer: &mut Lexer) -> Result<Form, Fault>
-    ensures line { lexer.new.line ≡ lexer.old.line }
-    ensures length { line_length lexer.new ≡ line_length lexer.old }
-    ensures answer { went (said result) (left lexer.new) ≡ start_form (line_length lexer.old) (left lexer.old) }
-    ensures proper { IfOk result (λ f. Proper (spoken_by f)) }
-{
-    close(lexer)?;
-    Ok(Form::Start)
-}
-
-fn read_rise(lexer: &mut Lexer) -> Result<Form, Fault>
-    ensures line { lexer.new.line ≡ lexer.old.line }
-    ensures length { line_length lexer.new ≡ line_length lexer.old }
-    ensures answer { went (said result) (left lexer.new) ≡ rise_form (line_length lexer.old) (left lexer.old) }
-    ensures proper { IfOk result (λ f. Proper (spoken_by f)) }
-{
-    close(lexer)?;
-    Ok(Form::Rise)
+    let book = kind(lexer)?;
+    closing(lexer, Form::Object { book })
 }
 
 fn reserve(lexer: &mut Lexer) -> Result<Request, Fault>
-    ensures line { lexer.new.line ≡ lexer.old.line }
-    ensures length { line_length lexer.new ≡ line_length lexer.old }
-    ensures answer { went result (left lexer.new) ≡ reserve_request (line_length lexer.old) (left lexer.old) }
-    ensures proper { IfOk result ProperRequest }
+    ensures { Reads reserve_request lexer.old lexer.new result }
 {
-    let slot = number(lexer, 0, 4294967295)?;
-    let container = number(lexer, 0, 4294967295)?;
-    Ok(Request::Reserve {
-        slot: slot as u32,
-        container: container as u32,
-    })
+    let slot = number(lexer, 0, u64::from(u32::MAX))? as u32;
+    let container = number(lexer, 0, u64::from(u32::MAX))? as u32;
+    Ok(Request::Reserve { slot, container })
 }
 
 // What stands behind an operation's word.
 fn request_by(lexer: &mut Lexer, text: &[u8], column: usize) -> Result<Request, Fault>
-    ensures line { lexer.new.line ≡ lexer.old.line }
-    ensures length { line_length lexer.new ≡ line_length lexer.old }
-    ensures answer { went result (left lexer.new) ≡ request_by text.now column (line_length lexer.old) (left lexer.old) }
-    ensures proper { IfOk result ProperRequest }
+    ensures { Reads (request_by text.now column) lexer.old lexer.new result }
 {
-    if same(text, b"add") {
-        let amount = number(lexer, 0, u64::MAX)?;
+    if text == b"add".as_slice() {
+        let amount = any_number(lexer)?;
         Ok(Request::Add { amount })
-    } else if same(text, b"read") {
+    } else if text == b"read".as_slice() {
         Ok(Request::Read)
-    } else if same(text, b"reserve") {
+    } else if text == b"reserve".as_slice() {
         reserve(lexer)
-    } else if same(text, b"cancel") {
-        let number = number(lexer, 0, u64::MAX)?;
+    } else if text == b"cancel".as_slice() {
+        let number = any_number(lexer)?;
         Ok(Request::Cancel { number })
-    } else if same(text, b"holder") {
-        let slot = number(lexer, 0, u64::MAX)?;
+    } else if text == b"holder".as_slice() {
+        let slot = any_number(lexer)?;
         Ok(Request::Holder { slot })
     } else {
-        Err(misfit(column))
+        Err(Fault::unreadable(column))
     }
 }
 
 fn read_request(lexer: &mut Lexer) -> Result<Request, Fault>
-    ensures line { lexer.new.line ≡ lexer.old.line }
-    ensures length { line_length lexer.new ≡ line_length lexer.old }
-    ensures answer { went result (left lexer.new) ≡ request (line_length lexer.old) (left lexer.old) }
-    ensures proper { IfOk result ProperRequest }
+    ensures { Reads request lexer.old lexer.new result }
 {
-    open(lexer)?;
+    bracket(lexer, Side::Open)?;
     let (text, column) = word(lexer)?;
     let request = request_by(lexer, text, column)?;
-    close(lexer)?;
+    bracket(lexer, Side::Close)?;
     Ok(request)
 }
 
 fn read_call(lexer: &mut Lexer) -> Result<Form, Fault>
-    ensures line { lexer.new.line ≡ lexer.old.line }
-    ensures length { line_length lexer.new ≡ line_length lexer.old }
-    ensures answer { went (said result) (left lexer.new) ≡ call_form (line_length lexer.old) (left lexer.old) }
-    ensures proper { IfOk result (λ f. Proper (spoken_by f)) }
+    ensures { Reads call_form lexer.old lexer.new (said result) }
 {
-    let station = number(lexer, 0, u64::MAX)?;
+    let station = any_number(lexer)?;
     let request = read_request(lexer)?;
-    close(lexer)?;
-    Ok(Form::Call { station, request })
+    closing(lexer, Form::Call { station, request })
 }
 
 fn read_steps(lexer: &mut Lexer) -> Result<Form, Fault>
-    ensures line { lexer.new.line ≡ lexer.old.line }
-    ensures length { line_length lexer.new ≡ line_length lexer.old }
-    ensures answer { went (said result) (left lexer.new) ≡ steps_form (line_length lexer.old) (left lexer.old) }
-    ensures proper { IfOk result (λ f. Proper (spoken_by f)) }
+    ensures { Reads steps_form lexer.old lexer.new (said result) }
 {
-    let station = number(lexer, 0, u64::MAX)?;
+    let station = any_number(lexer)?;
     let count = number(lexer, 1, u64::MAX)?;
-    close(lexer)?;
-    Ok(Form::Steps { station, count })
+    closing(lexer, Form::Steps { station, count })
 }
 
 fn read_outcome(lexer: &mut Lexer) -> Result<Form, Fault>
-    ensures line { lexer.new.line ≡ lexer.old.line }
-    ensures length { line_length lexer.new ≡ line_length lexer.old }
-    ensures answer { went (said result) (left lexer.new) ≡ outcome_form (line_length lexer.old) (left lexer.old) }
-    ensures proper { IfOk result (λ f. Proper (spoken_by f)) }
+    ensures { Reads outcome_form lexer.old lexer.new (said result) }
 {
-    let run = number(lexer, 0, u64::MAX)?;
-    let station = number(lexer, 0, u64::MAX)?;
-    let number = number(lexer, 0, u64::MAX)?;
-    close(lexer)?;
-    Ok(Form::Outcome {
-        run,
-        station,
-        number,
-    })
+    let run = any_number(lexer)?;
+    let station = any_number(lexer)?;
+    let number = any_number(lexer)?;
+    closing(
+        lexer,
+        Form::Outcome {
+            run,
+            station,
+            number,
+        },
+    )
 }
 
 // A pair behind its opening bracket.
 fn read_pair(lexer: &mut Lexer) -> Result<Pair, Fault>
-    ensures line { lexer.new.line ≡ lexer.old.line }
-    ensures length { line_length lexer.new ≡ line_length lexer.old }
-    ensures answer { went (pair_in result) (left lexer.new) ≡ pair (line_length lexer.old) (left lexer.old) }
-    ensures proper { IfOk result (λ p. ProperPair (pair_of p)) }
+    ensures { Reads pair lexer.old lexer.new (pair_in result) }
 {
-    let line = number(lexer, 0, 128)?;
-    let kept = number(lexer, 0, 255)?;
-    close(lexer)?;
-    Ok(Pair {
-        line: line as u8,
-        kept: kept as u8,
-    })
+    let line = number(lexer, 0, 128)? as u8;
+    let kept = number(lexer, 0, 255)? as u8;
+    bracket(lexer, Side::Close)?;
+    Ok(Pair { line, kept })
 }
 
 const MOST_PAIRS: usize = 16;
 
-// A pair may follow so many.
-fn may_follow(count: usize) -> bool
-    ensures { MatchBool result (count < 16) (16 ≤ count) }
-{
-    count < MOST_PAIRS
-}
-
 // Up to 16 pairs and the bracket behind them.
+#[tactic(auto, using(crate::proofs::Cutting::cutting))]
 fn read_cut(lexer: &mut Lexer) -> Result<Form, Fault>
-    ensures line { lexer.new.line ≡ lexer.old.line }
-    ensures length { line_length lexer.new ≡ line_length lexer.old }
-    ensures answer { went (said result) (left lexer.new) ≡ cut_form 16 [] (line_length lexer.old) (left lexer.old) }
-    ensures proper { IfOk result (λ f. Proper (spoken_by f)) }
+    ensures { Reads (cut_form 16 []) lexer.old lexer.new (said result) }
 {
-    let mut pairs = [Pair { line: 0, kept: 0 }; 16];
-    let mut count = 0;
+    let mut pairs = Pairs::new();
     loop {
         let (found, column) = token(lexer)?;
         match found {
-            Token::Close => return Ok(Form::Cut(Pairs { pairs, count })),
-            Token::Open => {}
-            _ => return Err(misfit(column)),
+            Token::Close => return Ok(Form::Cut(pairs)),
+            Token::Open if pairs.count < MOST_PAIRS => pairs.push(read_pair(lexer)?),
+            _ => return Err(Fault::unreadable(column)),
         }
-        if !may_follow(count) {
-            return Err(misfit(column));
-        }
-        pairs[count] = read_pair(lexer)?;
-        count += 1;
     }
 }
 
 // What stands behind a form's word.
 fn form_by(lexer: &mut Lexer, text: &[u8], column: usize) -> Result<Form, Fault>
-    ensures line { lexer.new.line ≡ lexer.old.line }
-    ensures length { line_length lexer.new ≡ line_length lexer.old }
-    ensures answer { went (said result) (left lexer.new) ≡ form_by text.now column (line_length lexer.old) (left lexer.old) }
-    ensures proper { IfOk result (λ f. Proper (spoken_by f)) }
+    ensures { Reads (form_by text.now column) lexer.old lexer.new (said result) }
 {
-    if same(text, b"memory") {
+    if text == b"memory".as_slice() {
         read_memory(lexer)
-    } else if same(text, b"object") {
+    } else if text == b"object".as_slice() {
         read_object(lexer)
-    } else if same(text, b"start") {
-        read_start(lexer)
-    } else if same(text, b"rise") {
-        read_rise(lexer)
-    } else if same(text, b"call") {
+    } else if text == b"start".as_slice() {
+        closing(lexer, Form::Start)
+    } else if text == b"rise".as_slice() {
+        closing(lexer, Form::Rise)
+    } else if text == b"call".as_slice() {
         read_call(lexer)
-    } else if same(text, b"steps") {
+    } else if text == b"steps".as_slice() {
         read_steps(lexer)
-    } else if same(text, b"outcome") {
+    } else if text == b"outcome".as_slice() {
         read_outcome(lexer)
-    } else if same(text, b"cut") {
+    } else if text == b"cut".as_slice() {
         read_cut(lexer)
     } else {
-        Err(misfit(column))
+        Err(Fault::unreadable(column))
     }
 }
 
 fn read_form(lexer: &mut Lexer) -> Result<Form, Fault>
-    ensures line { lexer.new.line ≡ lexer.old.line }
-    ensures length { line_length lexer.new ≡ line_length lexer.old }
-    ensures answer { went (said result) (left lexer.new) ≡ some_form (line_length lexer.old) (left lexer.old) }
-    ensures proper { IfOk result (λ f. Proper (spoken_by f)) }
+    ensures { Reads some_form lexer.old lexer.new (said result) }
 {
-    open(lexer)?;
+    bracket(lexer, Side::Open)?;
     let (text, column) = word(lexer)?;
     form_by(lexer, text, column)
 }
 
 // The form, if nothing stands behind it.
 fn finish(lexer: &mut Lexer, form: Form) -> Result<Form, Fault>
-    ensures answer { said result ≡ alone (spoken_by form) (left lexer.old) }
-    ensures proper { Proper (spoken_by form) → IfOk result (λ f. Proper (spoken_by f)) }
+    ensures { said result ≡ alone (spoken_by form) (left lexer.old) }
 {
-    match lexer.next()? {
+    match lexer.next().transpose()? {
         None => Ok(form),
-        Some((_, column)) => Err(misfit(column)),
+        Some((_, column)) => Err(Fault::unreadable(column)),
     }
 }
 
 // The form that a line of any length says.
+#[tactic(auto, using(crate::proofs::Whole::whole_fault, crate::proofs::Whole::whole_form))]
 fn read_whole(line: &[u8]) -> Result<Form, Fault>
-    ensures answer { said result ≡ read_by table [] (length line.now) (tokens_of line.now) }
-    ensures proper { IfOk result (λ f. Proper (spoken_by f)) }
+    ensures { said result ≡ read_by table [] (length line.now) (tokens_of line.now) }
 {
     let mut lexer = Lexer::new(line);
     let form = read_form(&mut lexer)?;
     finish(&mut lexer, form)
 }
 
-fn short_enough(line: &[u8]) -> Result<(), Fault>
-    ensures { result ≡ (if nat_lt 200 (length line.now) then Err (unreadable 201) else Ok tt) }
-{
-    if line.len() > 200 {
-        Err(misfit(201))
-    } else {
-        Ok(())
-    }
-}
-
 // The form that a line says. Fault 16 has the column of the first token that does not fit, the one behind the line's end if
 // more had to come, and 201 for a line of more than 200 bytes.
+#[tactic(auto, using(crate::proofs::Proper::proper))]
 pub fn read_line(line: &[u8]) -> Result<Form, Fault>
     ensures answer { said result ≡ read_line line.now }
     ensures proper { IfOk result (λ f. Proper (spoken_by f)) }
 {
-    short_enough(line)?;
+    if line.len() > 200 {
+        return Err(Fault::unreadable(201));
+    }
     read_whole(line)
 }

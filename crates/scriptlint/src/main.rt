@@ -1,8 +1,6 @@
 // Reads a script from standard input, and prints for each line the form in its plain spelling, or the fault.
 #![tactic(auto)]
 
-ghost use Rattle.std.specs.Prelude.{◌≤◌, length, IfOk};
-
 use answers::Answer;
 use script::read_line;
 use std::io;
@@ -10,25 +8,7 @@ use std::io::Read;
 use tokens::Lines;
 
 // Only so much of the input counts.
-const MOST: usize = 65_536;
-
-// Reads until the buffer is full or the input ends, and tells how many bytes there are.
-fn fill(input: &mut impl Read, buffer: &mut [u8]) -> io::Result<usize>
-    ensures { IfOk result (λ n. n ≤ length buffer.new) }
-{
-    let mut count = 0;
-    for _ in 0..MOST {
-        if count >= buffer.len() {
-            break;
-        }
-        let got = input.read(&mut buffer[count..])?;
-        if got == 0 {
-            break;
-        }
-        count += got;
-    }
-    Ok(count)
-}
+const MOST: u64 = 65_536;
 
 fn report(rt: &impl Print, line: &[u8]) -> io::Result<()> {
     match read_line(line) {
@@ -41,15 +21,10 @@ fn report(rt: &impl Print, line: &[u8]) -> io::Result<()> {
 }
 
 fn main(rt: HostRuntime) -> io::Result<()> {
-    let mut buffer = [0; MOST];
-    let mut input = rt.stdin();
-    let count = fill(&mut input, &mut buffer)?;
-    let mut lines = Lines::new(&buffer[0..count]);
-    for _ in 0..MOST {
-        match lines.next() {
-            Some(line) => report(&rt, line)?,
-            None => break,
-        }
+    let mut input = Vec::new(rt.alloc());
+    rt.stdin().take(MOST).read_to_end(&mut input)?;
+    for line in Lines::new(&input) {
+        report(&rt, line)?;
     }
     Ok(())
 }

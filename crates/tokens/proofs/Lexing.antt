@@ -1,5 +1,6 @@
 -- One token after the other: what the lexer leaves are the tokens behind the one that it gave.
 use Rattle.std.proofs.Common.{◌≡◌, ℕ, ◌+◌, ◌-◌, ◌<◌, ◌≤◌, min, max, Bool, true, false, cond, ◌&&◌, ◌||◌, List, [], ◌∷◌, length, get_or, take, drop, sym, refl, ap, ◌∙◌, ap₂, inl, inr, one-add, arith}
+use Rattle.std.proofs.Math.Bool.{or-true, or-false, or_self}
 use Rattle.std.proofs.lemmas.List.{drop-drop, drop_all, drop_more, get_or-take, get_or-drop}
 use Rattle.std.proofs.lemmas.Bool.{cases_Bool, cases_lt, cond-true, cond-false, or_cases, and_parts, false≢true}
 use Rattle.tokens.specs.Tokens.{class_of, is_letter, is_digit, is_blank, joined, run_length, width, Placed, text_shape, shape_at, shape_of_text, tokens_from, tokens_at}
@@ -50,20 +51,8 @@ blank_is Letter = refl
 blank_is Digit = refl
 blank_is Other = refl
 
-or_true : (x : Bool) → (x || true) ≡ true
-or_true true = refl
-or_true false = refl
-
-or_false : (x : Bool) → (x || false) ≡ x
-or_false true = refl
-or_false false = refl
-
-or_twice : (x : Bool) → (x || x) ≡ x
-or_twice true = refl
-or_twice false = refl
-
 blank_joined : (d : Class) → (is_blank d || joined Blank d) ≡ is_blank d
-blank_joined d = ap (λ t. is_blank d || t) (blank_is d) ∙ or_twice (is_blank d)
+blank_joined d = ap (λ t. is_blank d || t) (blank_is d) ∙ or_self (is_blank d)
 
 -- the tokens of b and the bytes behind it, by whether b goes on with what stands before
 abbrev step : Bool → ℕ → ℕ → List ℕ → List Placed
@@ -75,13 +64,13 @@ past_run c [] col = refl
 past_run c (b ∷ bs) col =
     elim (cases_Bool (joined c (class_of b))) [
       | inl e ↦
-          ap (λ t. step t col b bs) (ap (λ t. is_blank (class_of b) || t) e ∙ or_true (is_blank (class_of b)))
+          ap (λ t. step t col b bs) (ap (λ t. is_blank (class_of b) || t) e ∙ or-true (is_blank (class_of b)))
           ∙ ap (λ d. tokens_from d (col + 1) bs) (joined_same c (class_of b) e)
           ∙ past_run c bs (col + 1)
           ∙ ap₂ (λ k (l : List ℕ). tokens_from Blank k l) (omega arith) (ap (λ k. drop k (b ∷ bs)) (sym (one-add (run_length c bs))))
           ∙ ap (λ k. tokens_from Blank (col + k) (drop k (b ∷ bs))) (sym (cond-true _ (1 + run_length c bs) 0 e))
       | inr e ↦
-          ap (λ t. step t col b bs) (ap (λ t. is_blank (class_of b) || t) e ∙ or_false (is_blank (class_of b)) ∙ sym (blank_joined (class_of b)))
+          ap (λ t. step t col b bs) (ap (λ t. is_blank (class_of b) || t) e ∙ or-false (is_blank (class_of b)) ∙ sym (blank_joined (class_of b)))
           ∙ ap (λ k. tokens_from Blank k (b ∷ bs)) (omega arith)
           ∙ ap (λ k. tokens_from Blank (col + k) (drop k (b ∷ bs))) (sym (cond-false _ (1 + run_length c bs) 0 e))
     ]
@@ -104,7 +93,7 @@ token_width : (b : ℕ) (bs : List ℕ) → width (class_of b) (b ∷ bs) ≡ 1 
 token_width b bs = own_width (class_of b) bs
 
 starts : (d : Class) → joined Blank d ≡ false → (is_blank d || joined Blank d) ≡ false
-starts d e = ap (λ t. is_blank d || t) e ∙ or_false (is_blank d) ∙ sym (blank_is d) ∙ e
+starts d e = blank_joined d ∙ sym (blank_is d) ∙ e
 
 module _ (line : List ℕ) where
   pub no_more : (at : ℕ) → length line ≤ at → tokens_at line at ≡ []

@@ -1,36 +1,38 @@
 ghost use Rattle.std.specs.Prelude.{◌≡◌, ◌+◌, ◌*◌, ◌≤◌, [], ◌∷◌, length, take, drop, MatchOption};
+ghost use Rattle.std.specs.Iterator.{item_count};
 ghost use Rattle.tokens.specs.Lines.{lines_of, line_length, script_lines};
-ghost use Rattle.tokens.specs.Ahead.{lines_left};
+ghost use Rattle.tokens.specs.Ahead.{lines_left, GivesLine};
 
-// The part of an input that counts: its first 64 KiB.
+// Only so many bytes of an input count: 64 KiB.
+const MOST: usize = 64 * 1024;
+
+// The part of an input that counts.
+#[tactic(auto, using(std::proofs::lemmas::List::take_min))]
 fn counted(input: &[u8]) -> &[u8]
     ensures { result.now ≡ take (64 * 1024) input.now }
 {
-    &input[0..input.len().min(64 * 1024)]
+    &input[..MOST.min(input.len())]
 }
 
-// Where the line ends that begins at `at`.
-fn line_end(input: &[u8], at: usize) -> usize
-    requires { at ≤ length input.now }
-    ensures value { result ≡ at + line_length (drop at input.now) }
-    ensures within { result ≤ length input.now }
+// How many bytes the first line has.
+fn line_length(bytes: &[u8]) -> usize
+    ensures value { result ≡ line_length bytes.now }
+    ensures within { result ≤ length bytes.now }
 {
-    let mut end = at;
-    while end < input.len() && input[end] != b'\n' {
-        end += 1;
-    }
-    end
+    bytes.iter().take_while(|byte| **byte != b'\n').count()
 }
 
 // The line that begins at `at`, and where the next one begins.
+#[tactic(auto, using(crate::proofs::Lining::line_there, crate::proofs::Lining::no_lines))]
 fn line_at(input: &[u8], at: usize) -> Option<(&[u8], usize)>
     ensures { MatchOption result (lines_of (drop at input.now) ≡ []) (λ l. lines_of (drop at input.now) ≡ l.0.now ∷ lines_of (drop l.1 input.now)) }
 {
     if at >= input.len() {
         return None;
     }
-    let end = line_end(input, at);
-    Some((&input[at..end], end + 1))
+    let (_, rest) = input.split_at(at);
+    let length = line_length(rest);
+    Some((&rest[..length], at + length + 1))
 }
 
 // The lines of an input, one after the other.
@@ -52,13 +54,17 @@ impl<'a> Lines<'a> {
             at: 0,
         }
     }
+}
+
+impl<'a> Iterator for Lines<'a> {
+    type Item = &'a [u8];
+
+    ghost next_gives = { GivesLine };
+
+    ghost remaining = { item_count lines_left };
 
     // The next line, or nothing at the input's end.
-    pub fn next(&mut self) -> Option<&'a [u8]>
-        ensures input { self.new.input ≡ self.old.input }
-        ensures lines { MatchOption result (lines_of (drop self.old.at self.old.input.now) ≡ []) (λ l. lines_of (drop self.old.at self.old.input.now) ≡ l.now ∷ lines_of (drop self.new.at self.new.input.now)) }
-        ensures ahead { MatchOption result (lines_left self.old ≡ []) (λ l. lines_left self.old ≡ l.now ∷ lines_left self.new) }
-    {
+    fn next(&mut self) -> Option<Self::Item> {
         let (line, next) = line_at(self.input, self.at)?;
         self.at = next;
         Some(line)

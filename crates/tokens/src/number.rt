@@ -10,22 +10,19 @@ fn with_digit(n: u64, digit: u8) -> Option<u64>
 }
 
 // The number that digits write, if it has 64 bits.
+#[tactic(auto, using(crate::proofs::Digits::value_fold))]
 fn value_of(digits: &[u8]) -> Option<u64>
     ensures { result ≡ (if nat_lt (value digits.now) (2 ^ 64) then Some (value digits.now) else None) }
 {
-    let mut n = 0;
-    for d in digits {
-        n = with_digit(n, *d)?;
-    }
-    Some(n)
+    digits.iter().try_fold(0, |n, digit| with_digit(n, *digit))
 }
 
 // The same, and none for two digits or more with a 0 in front.
 pub fn number_of(digits: &[u8]) -> Option<u64>
     ensures { result ≡ number_of digits.now }
 {
-    if digits.len() > 1 && digits[0] == b'0' {
-        return None;
+    match digits {
+        [b'0', _, ..] => None,
+        _ => value_of(digits),
     }
-    value_of(digits)
 }

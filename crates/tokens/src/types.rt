@@ -1,5 +1,8 @@
+ghost use Rattle.std.specs.Prelude.{◌≡◌};
+ghost use Rattle.tokens.specs.Tokens.{unreadable};
+
 // What a character of a script can be.
-#[derive(Clone, Copy)]
+#[derive(Clone, Copy, PartialEq)]
 pub enum Class {
     Open,
     Close,
@@ -23,4 +26,13 @@ pub enum Token<'a> {
 pub struct Fault {
     pub number: u64,
     pub column: usize,
+}
+
+impl Fault {
+    // The line cannot be read: fault 16.
+    pub fn unreadable(column: usize) -> Self
+        ensures { result ≡ unreadable column }
+    {
+        Fault { number: 16, column }
+    }
 }

@@ -1,11 +1,9 @@
-use Rattle.std.proofs.Common.{◌≡◌, ◌-◌, ◌≤◌}
+use Rattle.std.proofs.Common.{◌≡◌, ◌-◌}
 use Rattle.model.specs.Journal.{word, lines_fit}
-use Rattle.journal.specs.Reading.{span}
 use Rattle.journal.proofs.entries.lines_fit.Given as goal
 
 -- the lines that are left decide the test
 abbrev pub invariant-loop-t : goal.invariant-loop-t
 invariant-loop-t g l =
-    (l.next ≤ l.end)
-    × (lines_fit (word l.head 1 - l.t) (word l.head 0) (word l.head 1) (word l.head 7) l.t (span (g.M.Memory.model l.memory) l.next l.end)
-    ≡ lines_fit (word l.head 1) (word l.head 0) (word l.head 1) (word l.head 7) 0 (span (g.M.Memory.model l.memory) l.at l.end))
+    lines_fit (word l.head 1 - l.t) (word l.head 0) (word l.head 1) (word l.head 7) l.t l.lines
+    ≡ lines_fit (word l.head 1) (word l.head 0) (word l.head 1) (word l.head 7) 0 l.fn.lines

@@ -1,5 +1,5 @@
 use Rattle.book.proofs.Numbers.{numbered}
 use Rattle.book.proofs.types.Slots.new.Goals as goal
 
-pub returns : goal.returns
-returns c = record { first = c.empty.ensures; numbered = numbered }
+pub returns-clause-numbered : goal.returns-clause-numbered
+returns-clause-numbered c = numbered

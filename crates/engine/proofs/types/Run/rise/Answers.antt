@@ -2,13 +2,7 @@ use Rattle.engine.proofs.Going.{rise_onward}
 use Rattle.engine.specs.View.{view}
 use Rattle.engine.proofs.types.Run.rise.Goals as goal
 
-pub returns : goal.returns
-returns g c = record {
-  answer = c.rise_once.ensures.answer;
-  leaves = c.rise_once.ensures.leaves;
-  aside = c.rise_once.ensures.aside;
-  same = c.rise_once.ensures.same;
-  lasting =
-      rise_onward (g.B.Book.rules c.args.self.now.book) (view g.M.Memory.model g.B.Book.rules g.B.Book.state c.args.self.now)
-      (view g.M.Memory.model g.B.Book.rules g.B.Book.state c.rise_once.new.self) c.rise_once.result c.rise_once.ensures.leaves.0 c.rise_once.ensures.answer c.rise_once.ensures.leaves.2;
-}
+pub returns-clause-lasting : goal.returns-clause-lasting
+returns-clause-lasting g c =
+    rise_onward (g.B.Book.rules c.args.self.now.book) (view g.M.Memory.model g.B.Book.rules g.B.Book.state c.args.self.now)
+    (view g.M.Memory.model g.B.Book.rules g.B.Book.state c.rise_once.new.self) c.rise_once.result c.rise_once.ensures.leaves.0 c.rise_once.ensures.answer c.rise_once.ensures.leaves.2

@@ -1,6 +1,0 @@
-use Rattle.memory.specs.Model.{cut_line}
-use Rattle.memory.proofs.Sweeps.{Swept}
-use Rattle.memory.proofs.lazy.cut_lines.Given as goal
-
-abbrev pub invariant-loop-l : goal.invariant-loop-l
-invariant-loop-l l = Swept cut_line l.kept l.initial.lines l.l l.lines
