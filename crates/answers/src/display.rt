@@ -1,7 +1,7 @@
 ghost use Rattle.std.specs.Prelude.{Some, decimal};
-ghost use Rattle.answers.specs.Printed.{printed};
+ghost use Rattle.answers.specs.Printed.{reply, printed};
 
-use super::types::{Answer, Decimal};
+use super::types::{Answer, Decimal, Reply};
 use std::fmt;
 
 // Every number is printed here.
@@ -10,6 +10,15 @@ impl fmt::Display for Decimal {
 
     fn fmt<W: fmt::Write>(&self, f: &mut fmt::Formatter<W>) -> fmt::Result {
         write!(f, "{}", self.0)
+    }
+}
+
+impl fmt::Display for Reply {
+    ghost output = { λ r. Some (reply r) };
+
+    fn fmt<W: fmt::Write>(&self, f: &mut fmt::Formatter<W>) -> fmt::Result {
+        let Reply { place, kind, value } = *self;
+        write!(f, "{} {} {}", Decimal(place), Decimal(kind), Decimal(value))
     }
 }
 
@@ -23,24 +32,8 @@ impl fmt::Display for Answer {
                 write!(f, "(run {} {})", Decimal(number), Decimal(found))
             }
             Answer::Called { number } => write!(f, "(open {})", Decimal(number)),
-            Answer::Replied { place, kind, value } => {
-                write!(
-                    f,
-                    "(reply {} {} {})",
-                    Decimal(place),
-                    Decimal(kind),
-                    Decimal(value)
-                )
-            }
-            Answer::Done { place, kind, value } => {
-                write!(
-                    f,
-                    "(done {} {} {})",
-                    Decimal(place),
-                    Decimal(kind),
-                    Decimal(value)
-                )
-            }
+            Answer::Replied(reply) => write!(f, "(reply {reply})"),
+            Answer::Done(reply) => write!(f, "(done {reply})"),
             Answer::Open => write!(f, "(open)"),
             Answer::Never => write!(f, "(none)"),
             Answer::Refused { number, detail } => {

@@ -4,4 +4,4 @@
 mod display;
 mod types;
 
-pub use types::{Answer, Decimal};
+pub use types::{Answer, Decimal, Reply};

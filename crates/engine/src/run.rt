@@ -7,14 +7,8 @@ ghost use Rattle.engine.specs.View.{view};
 use super::types::{Run, Table};
 use book::Book;
 use memory::Memory;
-use model::{Call, Refusal, Rise, Station, Status};
+use model::{Refusal, Rise, Station, Status};
 use order::Order;
-
-const IDLE: Station = Station {
-    call: Call::Idle,
-    given: 0,
-    used: 0,
-};
 
 // The table of a run whose start was refused.
 pub(crate) fn shut(refusal: Refusal) -> Table
@@ -24,7 +18,7 @@ pub(crate) fn shut(refusal: Refusal) -> Table
     ensures stations { result.stations ≡ replicate station_count (idle_station 0) }
 {
     Table {
-        stations: [IDLE; 8],
+        stations: [Station::default(); 8],
         order: Order::new(),
         number: 0,
         status: Status::Shut(refusal),

@@ -7,8 +7,8 @@ fn line() -> LineRec {
 
 // Stores 1, 2, .. up to n in word 0 of line 0.
 fn store_up_to<M: Memory>(memory: &mut M, n: u64) {
-    for before in 0..n {
-        memory.store(0, 0, before + 1);
+    for value in 1..=n {
+        memory.store(0, 0, value);
     }
 }
 

@@ -45,15 +45,16 @@ pub enum QueryPhase {
 }
 
 // A station's open call.
-#[derive(Clone, Copy)]
+#[derive(Clone, Copy, Default)]
 pub enum Call {
+    #[default]
     Idle,
     Update { op: Op, phase: Phase },
     Query { op: Op, phase: QueryPhase },
 }
 
 // A station: its open call, the number of its newest update, and the lines of its log that entries use.
-#[derive(Clone, Copy)]
+#[derive(Clone, Copy, Default)]
 pub struct Station {
     pub call: Call,
     pub given: u64,

@@ -7,7 +7,7 @@ use super::types::Recovered;
 use book::{Book, Sort};
 use journal::{agrees, find_place, last_place, log_length, update_in, used_lines};
 use memory::Memory;
-use model::{Call, Node, Refusal, Station, Update};
+use model::{Node, Refusal, Station, Update};
 use order::Order;
 use std::array;
 
@@ -24,9 +24,8 @@ fn fresh<M: Memory>(memory: &M, station: u64) -> Station
     ensures { result ≡ fresh_station (log_entries (M.Memory.model memory.now) station) }
 {
     Station {
-        call: Call::Idle,
-        given: 0,
         used: used_lines(memory, station) as u64,
+        ..Station::default()
     }
 }
 

@@ -9,8 +9,8 @@ mod reader;
 pub use reader::read_line;
 
 // What forms, tokens and answers are, stands in crates of their own.
-pub use answers::{Answer, Decimal};
-pub use forms::{BookKind, Form, MemoryKind, Pair, Pairs, Request};
+pub use answers::{Answer, Decimal, Reply};
+pub use forms::{BookKind, Form, MemoryKind, Named, Pair, Pairs, Request};
 pub use tokens::{Class, Fault, Lexer, Lines, Token, number_of};
 
 // A line is read as a form that has its tokens, or has its fault at the first token that no form goes on with.
