@@ -1,5 +1,5 @@
 // Entries: whether one stands at the front of some lines, and which stand there one behind the other.
-ghost use Rattle.std.specs.Prelude.{◌≡◌, ℕ, suc, ◌+◌, ◌&&◌, [], ◌∷◌, take, is_some, IfSome};
+ghost use Rattle.std.specs.Prelude.{◌≡◌, ℕ, suc, ◌+◌, ◌-◌, ◌&&◌, [], ◌∷◌, take, is_some, IfSome};
 ghost use Rattle.std.specs.Iterator.{YieldsFirstBy, item_count};
 ghost use Rattle.model.specs.Journal.{word, lines_fit, stands, entries};
 ghost use Rattle.journal.specs.Reading.{span, entry};
@@ -32,12 +32,12 @@ fn next_fits<M: Memory>(lines: &mut Part<M>, head: [u64; 8], t: u64) -> bool
     line_fits(line, head[0], head[1], head[7], t)
 }
 
-// These lines begin with those of an entry whose first line is `head`.
+// These lines begin with those behind the first one, `head`, of an entry.
 #[tactic(auto, using(crate::proofs::Fitting::one_less))]
 fn lines_fit<M: Memory>(mut lines: Part<M>, head: [u64; 8]) -> bool
-    ensures { result ≡ lines_fit (word head 1) (word head 0) (word head 1) (word head 7) 0 lines.entry }
+    ensures { result ≡ lines_fit (word head 1 - 1) (word head 0) (word head 1) (word head 7) 1 lines.entry }
 {
-    for t in 0..head[1] {
+    for t in 1..head[1] {
         if !next_fits(&mut lines, head, t) {
             return false;
         }
@@ -46,12 +46,15 @@ fn lines_fit<M: Memory>(mut lines: Part<M>, head: [u64; 8]) -> bool
 }
 
 // The first of these lines, where an entry of `owner` stands there.
+#[tactic(auto, using(crate::proofs::Fitting::stands_front))]
 fn head_of<M: Memory>(lines: &Part<M>, owner: u64) -> Option<[u64; 8]>
     ensures stood { is_some result ≡ stands owner lines.now }
     ensures head { IfSome result (λ l. take 1 lines.now ≡ l ∷ []) }
 {
-    let head = lines.again().next()?;
-    (begins(owner, head) && lines_fit(lines.again(), head)).then_some(head)
+    let mut behind = lines.again();
+    let head = behind.next()?;
+    let first_fits = begins(owner, head) && line_fits(head, head[0], head[1], head[7], 0);
+    (first_fits && lines_fit(behind, head)).then_some(head)
 }
 
 impl<'a, M: Memory> Iterator for Entries<'a, M> {

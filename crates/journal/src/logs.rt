@@ -1,6 +1,6 @@
 // The logs of the stations, and what is read from one or all of them.
 ghost use Rattle.std.specs.Prelude.{◌≡◌, ◌+◌, ◌-◌, ◌*◌, ◌^◌, ◌<◌, ◌≤◌, min, max, length, fold};
-ghost use Rattle.model.specs.Journal.{log_length, log_start, entries, log_entries, used_lines, last_place, station_count};
+ghost use Rattle.model.specs.Journal.{log_length, log_start, log_of, entries, log_entries, used_lines, last_place, station_count};
 
 use super::entries::Entries;
 use super::limits::STATIONS;
@@ -34,6 +34,8 @@ pub fn log_start<M: Memory>(memory: &M, station: u64) -> usize
 // The entries of a station's log.
 #[tactic(auto, using(crate::proofs::Marking::log_is))]
 pub(crate) fn log_entries<M: Memory>(memory: &M, station: u64) -> Entries<'_, M>
+    ensures owner { result.owner ≡ station }
+    ensures lines { result.lines ≡ log_of (M.Memory.model memory.now) (log_length (M.Memory.model memory.now)) station }
     ensures read { entries result.owner 0 result.lines ≡ log_entries (M.Memory.model memory.now) station }
     ensures short { length result.lines < 2 ^ 64 }
 {
