@@ -14,12 +14,19 @@ fn counted(input: &[u8]) -> &[u8]
     &input[..MOST.min(input.len())]
 }
 
-// How many bytes the first line has.
-fn line_length(bytes: &[u8]) -> usize
-    ensures value { result ≡ line_length bytes.now }
-    ensures within { result ≤ length bytes.now }
+// Where the line ends that begins at `at`.
+#[tactic(auto, using(crate::proofs::Lining::line_more, crate::proofs::Lining::line_ends, crate::proofs::Lining::line_over))]
+fn line_end(input: &[u8], at: usize) -> usize
+    requires { at ≤ length input.now }
+    ensures value { result ≡ at + line_length (drop at input.now) }
+    ensures within { result ≤ length input.now }
 {
-    bytes.iter().take_while(|byte| **byte != b'\n').count()
+    for end in at..input.len() {
+        if input[end] == b'\n' {
+            return end;
+        }
+    }
+    input.len()
 }
 
 // The line that begins at `at`, and where the next one begins.
@@ -30,9 +37,8 @@ fn line_at(input: &[u8], at: usize) -> Option<(&[u8], usize)>
     if at >= input.len() {
         return None;
     }
-    let (_, rest) = input.split_at(at);
-    let length = line_length(rest);
-    Some((&rest[..length], at + length + 1))
+    let end = line_end(input, at);
+    Some((&input[at..end], end + 1))
 }
 
 // The lines of an input, one after the other.
